@@ -5,7 +5,7 @@ ghost use Rattle.view_table.specs.Views.{as_view};
 ghost use Rattle.audit_defs.specs.Players.{player_by, players_of, setting_of};
 ghost use Rattle.audit_defs.specs.Audits.{Known, cast_of};
 ghost use Rattle.journal_steps.specs.Views.{source as source_of};
-ghost use Rattle.audit_sources.specs.Faults.{Tells};
+ghost use Rattle.audit_sources.specs.Faults.{IsFaultOf};
 ghost use Rattle.audit_walk.specs.Turns.{IsPlayer, begun};
 ghost use Rattle.audit_walk.specs.Turns.{IsWalk};
 ghost use Rattle.audit_cast.specs.Casts.{Starts, with_any};
@@ -100,7 +100,7 @@ pub fn cast<'a>(
 ) -> Result<Walk<'a>, AuditFault>
     requires kit { IsKit kit.now }
     ensures starts { IfOk result (Starts (setting_of kit.now) (cast_of (setting_of kit.now) (map source_of sources.now) listed)) }
-    ensures refused { IfErr result (λ fault. Tells fault (cast_of (setting_of kit.now) (map source_of sources.now) listed)) }
+    ensures refused { IfErr result (λ fault. IsFaultOf fault (cast_of (setting_of kit.now) (map source_of sources.now) listed)) }
 {
     if let Some(p) = first_missing(sources, listed) {
         return Err(AuditFault::Missing(p));

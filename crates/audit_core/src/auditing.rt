@@ -6,7 +6,7 @@ ghost use Rattle.audit_defs.specs.Players.{setting_of};
 ghost use Rattle.audit_defs.specs.Audits.{Audited, audited, audited_in, sources_of};
 ghost use Rattle.audit_defs.specs.Laws.{FirstGiveLast};
 ghost use Rattle.journal_steps.specs.Views.{source as source_of};
-ghost use Rattle.audit_sources.specs.Faults.{Tells};
+ghost use Rattle.audit_sources.specs.Faults.{IsFaultOf};
 ghost use Rattle.audit_core.specs.Ends.{Ended, HasCome};
 ghost use Rattle.audit_core.specs.Found.{IsFound, listed_in};
 
@@ -27,7 +27,7 @@ fn walk_of<'a>(
 ) -> Result<Walk<'a>, AuditFault>
     requires kit { IsKit kit.now }
     ensures ended { IfOk result (Ended (setting_of kit.now) (map source_of sources.now) correct) }
-    ensures refused { IfErr result (λ fault. Tells fault (audited_in (setting_of kit.now) (map source_of sources.now) correct)) }
+    ensures refused { IfErr result (λ fault. IsFaultOf fault (audited_in (setting_of kit.now) (map source_of sources.now) correct)) }
 {
     let scheme = kit.scheme();
     let group = kit.group();
@@ -62,7 +62,7 @@ pub fn walk_all<'a>(
 
     // The processes are as they are at the end of what the audit finds out, in the same order.
     ensures come { IfOk result (λ w. (a : Audited) × (audited kit.now correct journals.now ≡ Ok a) × HasCome a w) }
-    ensures refused { IfErr result (λ fault. Tells fault (audited kit.now correct journals.now)) }
+    ensures refused { IfErr result (λ fault. IsFaultOf fault (audited kit.now correct journals.now)) }
 {
     let sources = match read_sources(alloc, kit, journals) {
         Ok(sources) => sources,
@@ -91,7 +91,7 @@ pub fn audit(
     requires kit { IsKit kit.now }
     // What is found is what the definitions find, and where they find nothing there is their fault.
     ensures found { IfOk result (λ f. (a : Audited) × (audited kit.now correct journals.now ≡ Ok a) × IsFound a f) }
-    ensures refused { IfErr result (λ fault. Tells fault (audited kit.now correct journals.now)) }
+    ensures refused { IfErr result (λ fault. IsFaultOf fault (audited kit.now correct journals.now)) }
     ensures listed { IfOk result (λ f. listed_in f ≡ correct) }
 
     // Findings that are honest and bounded agree and are sound; and where they are honest, no process of `correct` is convicted.

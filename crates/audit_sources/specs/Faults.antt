@@ -12,5 +12,5 @@ fault_of (Entry journal place) = Some (audits.Entry journal place)
 fault_of NoMemory = None
 
 -- what was asked for has this fault, but for want of memory
-abbrev pub Tells : {A : Type 0} → AuditFault → Result A audits.AuditFault → Type 0
-Tells fault asked = IfSome (fault_of fault) (λ f. asked ≡ Err f)
+abbrev pub IsFaultOf : {A : Type 0} → AuditFault → Result A audits.AuditFault → Type 0
+IsFaultOf fault asked = IfSome (fault_of fault) (λ f. asked ≡ Err f)

@@ -2,7 +2,7 @@
 ghost use Rattle.std.specs.Prelude.{◌≡◌, IfErr, IfOk, Ok, map};
 ghost use Rattle.audit_defs.specs.Audits.{sources_of};
 ghost use Rattle.journal_steps.specs.Views.{source as source_of};
-ghost use Rattle.audit_sources.specs.Faults.{Tells};
+ghost use Rattle.audit_sources.specs.Faults.{IsFaultOf};
 
 use crate::fault::AuditFault;
 use journal_steps::{Kit, Source};
@@ -19,7 +19,7 @@ pub fn read_sources<'a>(
     journals: &'a [Payload],
 ) -> Result<Vec<Source<'a>>, AuditFault>
     ensures read { IfOk result (λ all. sources_of kit.now journals.now ≡ Ok (map source_of all.items)) }
-    ensures refused { IfErr result (λ fault. Tells fault (sources_of kit.now journals.now)) }
+    ensures refused { IfErr result (λ fault. IsFaultOf fault (sources_of kit.now journals.now)) }
 {
     let mut all = Vec::new(alloc);
     for (journal, bytes) in journals.iter().enumerate() {

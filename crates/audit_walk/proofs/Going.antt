@@ -15,7 +15,7 @@ use Rattle.audit_defs.specs.Audits.{AuditFault, Known, goes, goes_through, knows
 use Rattle.audit_turns.specs.declared.walk.Walk.{Walk}
 use Rattle.audit_turns.specs.Walks.{GoesOn}
 use Rattle.audit_sources.specs.declared.fault.AuditFault as faults
-use Rattle.audit_sources.specs.Faults.{Tells, fault_of}
+use Rattle.audit_sources.specs.Faults.{IsFaultOf, fault_of}
 use Rattle.audit_walk.specs.Ways.{IsOnWay, Walked}
 
 -- ---- the first step
@@ -88,7 +88,7 @@ module _ (s : Setting) (end : Result Known AuditFault) (left : List Step) (old n
 
   -- or refused
   pub journal-refused : (first : List Step) (way : IsOnWay s end (first ++ left) old) (fault : faults.AuditFault)
-      → Tells fault (goes_through s way.known first) → Tells fault end
+      → IsFaultOf fault (goes_through s way.known first) → IsFaultOf fault end
   journal-refused first way fault tells = go (fault_of fault) tells
     where
       go : (o : Option AuditFault) → IfSome o (λ f. goes_through s way.known first ≡ Err f) → IfSome o (λ f. end ≡ Err f)

@@ -8,7 +8,7 @@ ghost use Rattle.audit_defs.specs.Sources.{Step, Takes, steps_in, steps_of};
 ghost use Rattle.audit_defs.specs.Audits as audits;
 ghost use Rattle.audit_defs.specs.Audits.{Known, goes_through};
 ghost use Rattle.journal_steps.specs.Views.{source as source_of, steps_left};
-ghost use Rattle.audit_sources.specs.Faults.{Tells};
+ghost use Rattle.audit_sources.specs.Faults.{IsFaultOf};
 ghost use Rattle.audit_turns.specs.Walks.{IsWalk};
 ghost use Rattle.audit_walk.specs.Ways.{IsOnWay, Walked};
 
@@ -29,7 +29,7 @@ fn take_entry<'a, V: Scheme>(
         → IsOnWay s end (Takes journal place (entry_of entry.now) ∷ left) walk.old → OnOk result (IsOnWay s end left walk.new) }
     ensures refused { (s : Setting) (end : Result Known audits.AuditFault) (left : List Step)
         → Shares s (V.valid judge.now.scheme.now) judge.now.group.now judge.now.roster.now
-        → IsOnWay s end (Takes journal place (entry_of entry.now) ∷ left) walk.old → IfErr result (λ fault. Tells fault end) }
+        → IsOnWay s end (Takes journal place (entry_of entry.now) ∷ left) walk.old → IfErr result (λ fault. IsFaultOf fault end) }
 {
     match walk.take(judge, journal, entry) {
         Ok(()) => Ok(()),
@@ -52,7 +52,7 @@ fn take_next<'a, V: Scheme>(
     ensures ended { IfOk result (λ more. more ≡ false → steps_left journal steps.new ≡ []) }
     ensures refused { (s : Setting) (end : Result Known audits.AuditFault)
         → Shares s (V.valid judge.now.scheme.now) judge.now.group.now judge.now.roster.now
-        → IsOnWay s end (steps_left journal steps.old) walk.old → IfErr result (λ fault. Tells fault end) }
+        → IsOnWay s end (steps_left journal steps.old) walk.old → IfErr result (λ fault. IsFaultOf fault end) }
 {
     match steps.next() {
         Ok(Some((place, entry))) => {
@@ -79,7 +79,7 @@ pub fn walk_journal<'a, V: Scheme>(
         → OnOk result (Walked s (goes_through s k (steps_in (journal, source_of source.now))) walk.new) }
     ensures refused { (s : Setting) (k : Known) (own : List plain.Claim)
         → Shares s (V.valid judge.now.scheme.now) judge.now.group.now judge.now.roster.now → IsWalk s k own walk.old
-        → IfErr result (λ fault. Tells fault (goes_through s k (steps_in (journal, source_of source.now)))) }
+        → IfErr result (λ fault. IsFaultOf fault (goes_through s k (steps_in (journal, source_of source.now)))) }
 {
     let mut steps = source.steps();
     'gates: while take_next(walk, judge, journal, &mut steps)? {}
@@ -100,7 +100,7 @@ pub fn walk_journals<'a, V: Scheme>(
         → OnOk result (Walked s (goes_through s k (steps_of (map source_of sources.now))) walk.new) }
     ensures refused { (s : Setting) (k : Known) (own : List plain.Claim)
         → Shares s (V.valid judge.now.scheme.now) judge.now.group.now judge.now.roster.now → IsWalk s k own walk.old
-        → IfErr result (λ fault. Tells fault (goes_through s k (steps_of (map source_of sources.now)))) }
+        → IfErr result (λ fault. IsFaultOf fault (goes_through s k (steps_of (map source_of sources.now)))) }
 {
     for (journal, source) in sources.iter().enumerate() {
         walk_journal(walk, judge, journal, source)?;

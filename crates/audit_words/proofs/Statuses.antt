@@ -2,7 +2,7 @@
 use Rattle.std.proofs.Common.{◌≡◌, ◌≢◌, ◌⊎◌, ◌≤◌, inl, inr, ℕ, ◌==◌, Bool, true, false, List, Option, None, Some, Result, Ok, Err, refl, sym, ap, subst, ◌∙◌, arith}
 use Rattle.std.specs.Prelude.{IsOk}
 use Rattle.std.proofs.lemmas.Bool.{eqb-true, eqb-false}
-use Rattle.rp_base.specs.Streams.{Says}
+use Rattle.rp_base.specs.Streams.{WritesLine}
 use Rattle.line_input.proofs.Places.{ends_settle, settles_all}
 use Rattle.audit_defs.specs.Audits.{Audited}
 use Rattle.audit_defs.specs.Findings as findings
@@ -124,7 +124,7 @@ same_reason listed (Some bytes) now r status none =
 
 module _ (listed : List ℕ) (before now : Option (List ℕ)) (stop : Stop) (result : ℕ)
     (reported : (fault : Fault) → stop ≡ Input fault → Reported listed before now fault) (status : result ≢ 1 → result ≡ status_of stop) where
-  pub stops : (result ≡ 7) ⊎ (result ≡ 8) → (old new : Option (List ℕ)) (f f' : ℕ) → (result ≢ 1 → Says (line_of stop) old new f f')
+  pub stops : (result ≡ 7) ⊎ (result ≡ 8) → (old new : Option (List ℕ)) (f f' : ℕ) → (result ≢ 1 → WritesLine (line_of stop) old new f f')
       → Unfound listed result before now old new f f'
   stops which old new f f' says =
       let other : result ≢ 1 = λ e. elim which [ inl a ↦ omega (arith, a, e) | inr b ↦ omega (arith, b, e) ] in
@@ -133,7 +133,7 @@ module _ (listed : List ℕ) (before now : Option (List ℕ)) (stop : Stop) (res
       record {
         refuses = t.0;
         is_status = t.2 ∙ ap status_of (sym at.1) ∙ sym (status other);
-        said = subst (λ (line : List ℕ). Says line old new f f') (ap line_of at.1 ∙ sym t.1) (says other);
+        said = subst (λ (line : List ℕ). WritesLine line old new f f') (ap line_of at.1 ∙ sym t.1) (says other);
       }
 
   by_stop : (s : ℕ) → ((fault : Fault) → stop ≡ Input fault → (result ≡ s) ⊎ (result ≡ 1)) → stop ≢ Read → stop ≢ Write

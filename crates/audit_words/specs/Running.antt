@@ -2,7 +2,7 @@
 -- the counts of the sink's faults before and now. Of a stream that does not say what it holds, nothing is said by it.
 use Rattle.std.specs.Prelude.{◌≡◌, ℕ, List, Option, Ok, Err, IsOk, IsSomeAnd}
 use Rattle.std.specs.Io.KnownBytes.{Appends}
-use Rattle.rp_base.specs.Streams.{AppendsPrefix, Says}
+use Rattle.rp_base.specs.Streams.{AppendsPrefix, WritesLine}
 use Rattle.line_input.specs.Places.{Ends, Settles}
 use Rattle.audit_defs.specs.Audits.{Audited}
 use Rattle.audit_defs.specs.Findings.{NoFindings, audit_of, findings_line, findings_of, status_of, stop_line}
@@ -43,7 +43,7 @@ pub record FoundInPart (listed : List ℕ) (before now old new : Option (List �
 pub record Unfound (listed : List ℕ) (status : ℕ) (before now old new : Option (List ℕ)) (faults faults_now : ℕ) : Type 0 where
   pub refuses : Refuses listed before now
   pub is_status : status_of refuses.why ≡ status
-  pub said : Says (stop_line refuses.why) old new faults faults_now
+  pub said : WritesLine (stop_line refuses.why) old new faults faults_now
 
 -- ---- of a source that says what it has left
 

@@ -1,7 +1,7 @@
 ghost use Rattle.std.specs.Prelude.{◌≡◌, ◌≢◌, ◌⊎◌, ℕ, IfOk, IsErrOf, codes};
 ghost use Rattle.std.specs.Io.KnownBytes.{Appends, Keeps};
 ghost use Rattle.rp_base.specs.Causes.{Rose};
-ghost use Rattle.rp_base.specs.Streams.{AppendsPrefix, Says};
+ghost use Rattle.rp_base.specs.Streams.{AppendsPrefix, WritesLine};
 ghost use Rattle.audit_defs.specs.Findings as findings;
 ghost use Rattle.audit_defs.specs.Findings.{stop_line};
 ghost use Rattle.audit_words.specs.Stops.{line_of, status_of, why_of};
@@ -48,7 +48,7 @@ fn give<K: Sink>(output: &mut K, line: &[u8]) -> u8
 fn say<K: Sink>(output: &mut K, stop: Stop, line: &[u8]) -> u8
     requires { line.now ≡ line_of stop }
     ensures status { result ≡ status_of stop }
-    ensures line { Says (line_of stop)
+    ensures line { WritesLine (line_of stop)
         (K.written output.old) (K.written output.new) (K.faults output.old) (K.faults output.new) }
 {
     let _ = write_all(output, line);
@@ -59,7 +59,7 @@ fn say<K: Sink>(output: &mut K, stop: Stop, line: &[u8]) -> u8
 fn tell_fault<K: Sink>(alloc: Global, output: &mut K, fault: Fault) -> u8
     ensures silent { result ≡ 1 → Keeps (K.written output.old) (K.written output.new) }
     ensures status { result ≢ 1 → result ≡ status_of (Stop.Input fault) }
-    ensures line { result ≢ 1 → Says (line_of (Stop.Input fault))
+    ensures line { result ≢ 1 → WritesLine (line_of (Stop.Input fault))
         (K.written output.old) (K.written output.new) (K.faults output.old) (K.faults output.new) }
 {
     let Ok(line) = fault.line(alloc) else {
@@ -74,7 +74,7 @@ fn tell<K: Sink>(alloc: Global, output: &mut K, stop: Stop) -> u8
     ensures silent { result ≡ 1 → Keeps (K.written output.old) (K.written output.new) }
     ensures status { result ≢ 1 → result ≡ status_of stop }
     ensures read { stop ≡ Stop.Read → result ≡ 3 }
-    ensures line { result ≢ 1 → Says (line_of stop)
+    ensures line { result ≢ 1 → WritesLine (line_of stop)
         (K.written output.old) (K.written output.new) (K.faults output.old) (K.faults output.new) }
 {
     match stop {
@@ -113,7 +113,7 @@ pub fn run_audit<S: Source, K: Sink>(
 
     // 3: only where the source failed; and by the clauses of the other statuses none of them comes where it did.
     ensures read { result ≡ 3 → Rose (S.faults input.old) (S.faults input.new) }
-    ensures read_line { result ≡ 3 → Says (codes "stop 3 read\n")
+    ensures read_line { result ≡ 3 → WritesLine (codes "stop 3 read\n")
         (K.written output.old) (K.written output.new) (K.faults output.old) (K.faults output.new) }
 
     // 4: only where the sink failed; a prefix of the line was written and nothing else.

@@ -17,15 +17,15 @@ use Rattle.chain_laws.specs.Reported.{AnswerTellsViews, IsEnd, IsQuoted, proofs_
 use Rattle.chain_laws.proofs.Agreeing.{chain_is_installed, chain_is_of_all, genesis_is_installed, genesis_is_of_all}
 
 -- the lines of these views, and an end
-pub record Tells (a : Answer) (views : List View) : Type 0 where
+pub record ShowsViews (a : Answer) (views : List View) : Type 0 where
   pub end : Answer
   pub ends : IsEnd end
   pub is : a ≡ behind (flat_map view_line views) end
 
-stops : (words : List (List ℕ)) → Tells (stopped words) []
+stops : (words : List (List ℕ)) → ShowsViews (stopped words) []
 stops words = record { end = stopped words; ends = inr (words, refl); is = refl }
 
-pub one-more : (v : View) (a : Answer) (views : List View) → Tells a views → Tells (behind (view_line v) a) (v ∷ views)
+pub one-more : (v : View) (a : Answer) (views : List View) → ShowsViews a views → ShowsViews (behind (view_line v) a) (v ∷ views)
 one-more v a views t = record {
   end = t.end;
   ends = t.ends;
@@ -34,17 +34,17 @@ one-more v a views t = record {
 }
 
 module _ (s : Setting) where
-  pub tells-at : (n : ℕ) (v : View) (parts : List (List ℕ)) → Tells (chain_at s n v parts) (views_shown s v (proofs_in parts))
+  pub tells-at : (n : ℕ) (v : View) (parts : List (List ℕ)) → ShowsViews (chain_at s n v parts) (views_shown s v (proofs_in parts))
   unfolding chain_at views_shown proofs_in
   tells-at n v [] = record { end = done; ends = inl refl; is = refl }
   tells-at n v (rest ∷ []) = of (length rest == 0)
     where
-      of : (b : Bool) → Tells (if b then done else stopped (codes "line" ∷ decimal n ∷ [])) []
+      of : (b : Bool) → ShowsViews (if b then done else stopped (codes "line" ∷ decimal n ∷ [])) []
       of true = record { end = done; ends = inl refl; is = refl }
       of false = stops (codes "line" ∷ decimal n ∷ [])
   tells-at n v (line ∷ next ∷ more) = of_line (λ w. tells-at (n + 1) w (next ∷ more)) (proof_in line)
     where
-      of_frame : ((w : View) → Tells (chain_at s (n + 1) w (next ∷ more)) (views_shown s w (proofs_in (next ∷ more))))
+      of_frame : ((w : View) → ShowsViews (chain_at s (n + 1) w (next ∷ more)) (views_shown s w (proofs_in (next ∷ more))))
           → (r : Result View ChainFault)
           → let a : Answer = elim r [
             | Err fault ↦ stopped (proof_words n fault)
@@ -52,11 +52,11 @@ module _ (s : Setting) where
           ] in let views : List View = elim r [
             | Err fault ↦ []
             | Ok w ↦ w ∷ views_shown s w (proofs_in (next ∷ more))
-          ] in Tells a views
+          ] in ShowsViews a views
       of_frame again (Err fault) = stops (proof_words n fault)
       of_frame again (Ok w) = one-more w (chain_at s (n + 1) w (next ∷ more)) (views_shown s w (proofs_in (next ∷ more))) (again w)
 
-      of_line : ((w : View) → Tells (chain_at s (n + 1) w (next ∷ more)) (views_shown s w (proofs_in (next ∷ more))))
+      of_line : ((w : View) → ShowsViews (chain_at s (n + 1) w (next ∷ more)) (views_shown s w (proofs_in (next ∷ more))))
           → (o : Option (List ℕ))
           → let a : Answer = elim o [
             | None ↦ stopped (codes "line" ∷ decimal n ∷ [])
@@ -67,7 +67,7 @@ module _ (s : Setting) where
           ] in let proofs : List (List ℕ) = elim o [
             | None ↦ []
             | Some frame ↦ frame ∷ proofs_in (next ∷ more)
-          ] in Tells a (views_shown s v proofs)
+          ] in ShowsViews a (views_shown s v proofs)
       of_line again None = stops (codes "line" ∷ decimal n ∷ [])
       of_line again (Some bytes) = of_frame again (advance s v bytes)
 

@@ -6,7 +6,7 @@
 --   of a chain from a kit's first view on: Reaches*, Answered*, SomeShown*, ShownAndSays*, ShownInPart*, Faulty*, Refused*, HasStatus*
 use Rattle.std.specs.Prelude.{◌≡◌, ◌⊎◌, ℕ, List, [], ◌++◌, Option, IsSomeAnd}
 use Rattle.std.specs.Io.KnownBytes.{Appends}
-use Rattle.rp_base.specs.Streams.{AppendsPrefix, Says}
+use Rattle.rp_base.specs.Streams.{AppendsPrefix, WritesLine}
 use Rattle.chain_text_defs.specs.Chains.{Answer, behind, chain_of, stopped, view_line}
 use Rattle.chain_words.specs.Places.{Ends, Leads, Place, Settles, answer_at}
 
@@ -37,7 +37,7 @@ pub record SomeShownBy (answer : List ℕ → Answer) (before now old new : Opti
 pub record ShownAndSaysBy (answer : List ℕ → Answer) (line : List ℕ) (before now old new : Option (List ℕ)) (faults faults_now : ℕ) : Type 0 where
   pub mid : Option (List ℕ)
   pub shown : SomeShownBy answer before now old mid
-  pub said : Says line mid new faults faults_now
+  pub said : WritesLine line mid new faults faults_now
 
 -- Whole lines of views were written, and of the next one a prefix.
 pub record ShownInPartBy (answer : List ℕ → Answer) (before now old new : Option (List ℕ)) : Type 0 where
@@ -59,7 +59,7 @@ pub record RefusedBy (answer : List ℕ → Answer) (before now old new : Option
   pub mid : Option (List ℕ)
   pub words : List (List ℕ)
   pub faulty : FaultyBy answer words before now old mid
-  pub said : Says (stopped words).written mid new faults faults_now
+  pub said : WritesLine (stopped words).written mid new faults faults_now
 
 -- the source says what it has left, and the answer to it has this status
 abbrev pub HasStatusBy : (List ℕ → Answer) → ℕ → Option (List ℕ) → Type 0

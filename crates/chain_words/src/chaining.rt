@@ -2,7 +2,7 @@ ghost use Rattle.std.specs.Prelude.{◌≡◌, ◌≢◌, ◌⊎◌, ◌+◌, �
 ghost use Rattle.std.specs.Io.KnownBytes.{Appends, Consumes, Keeps};
 ghost use Rattle.byte_defs.specs.Reads.{Makes};
 ghost use Rattle.rp_base.specs.Causes.{Rose};
-ghost use Rattle.rp_base.specs.Streams.{AppendsPrefix, Says};
+ghost use Rattle.rp_base.specs.Streams.{AppendsPrefix, WritesLine};
 ghost use Rattle.kit_defs.specs.Kits.{IsKit};
 ghost use Rattle.kit_reading.specs.Fronts.{Begins};
 ghost use Rattle.group_defs.specs.Views.{View as PlainView};
@@ -232,7 +232,7 @@ pub fn tell<K: Sink>(alloc: Global, output: &mut K, stop: Stop) -> u8
     ensures silent { result ≡ 1 → Keeps (K.written output.old) (K.written output.new) }
     ensures status { result ≢ 1 → result ≡ status_of stop }
     ensures write { stop ≡ Stop.Write → result ≡ 4 }
-    ensures line { result ≢ 1 → Says (line_of stop)
+    ensures line { result ≢ 1 → WritesLine (line_of stop)
         (K.written output.old) (K.written output.new) (K.faults output.old) (K.faults output.new) }
 {
     let Ok(line) = stop.line(alloc) else {

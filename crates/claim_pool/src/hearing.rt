@@ -5,6 +5,7 @@ ghost use Rattle.byte_defs.specs.Choices.{first_that_holds};
 ghost use Rattle.message_defs.specs.Statements as plain;
 ghost use Rattle.group_defs.specs.Views as views;
 ghost use Rattle.group_defs.specs.Process as defs;
+ghost use Rattle.group_defs.specs.Due.{window};
 ghost use Rattle.group_defs.specs.Hearing as hearing;
 ghost use Rattle.stmt_codec.specs.Views.{stmt, claim as claim_of};
 ghost use Rattle.own_place.specs.Owns.{HasDelivered};
@@ -63,9 +64,9 @@ fn count_of(view: &View, own: &Own, member: Pid) -> u16
     }
 }
 
-// Whether the number is 32 or more ahead of how many there are.
+// Whether the number is a window or more ahead of how many there are.
 fn is_ahead(number: u16, have: u16) -> bool
-    ensures { result ≡ nat_le (have + 32) number }
+    ensures { result ≡ nat_le (have + window) number }
 {
     have as u32 + WINDOW <= number as u32
 }

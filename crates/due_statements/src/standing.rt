@@ -7,7 +7,7 @@ ghost use Rattle.group_defs.specs.Process.{Setting, Process};
 ghost use Rattle.group_defs.specs.Certified.{number_of_members};
 ghost use Rattle.group_defs.specs.Due.{least_due};
 ghost use Rattle.stmt_codec.specs.Views.{stmt};
-ghost use Rattle.due_statements.specs.Standings.{Stands, IsSeated, kind_of};
+ghost use Rattle.due_statements.specs.AskedOf.{IsAskedOf, IsSeated, kind_of};
 
 use crate::kind::Kind;
 use multicast_rules::{Own, Pool, echo_due, init_due, keep_due, order_due, place_due};
@@ -61,7 +61,7 @@ fn accepted(of: &Standing<'_>) -> u32
 // The Init that is due.
 fn init<'a>(of: &Standing<'a>) -> Option<Statement<'a>>
     requires { IsSeated of.now }
-    ensures { (s : Setting) (p : Process) → Stands s p of.now → least_due s p defs.Inits ≡ option_map stmt result }
+    ensures { (s : Setting) (p : Process) → IsAskedOf s p of.now → least_due s p defs.Inits ≡ option_map stmt result }
 {
     let number = init_due(of.pool, of.own, accepted(of))?;
     let payload = of.accepted[of.own.earlier as usize + number as usize].bytes();
@@ -74,7 +74,7 @@ fn init<'a>(of: &Standing<'a>) -> Option<Statement<'a>>
 
 // The Echo that is due.
 fn echo<'a>(of: &Standing<'a>) -> Option<Statement<'a>>
-    ensures { (s : Setting) (p : Process) → Stands s p of.now → least_due s p defs.Echoes ≡ option_map stmt result }
+    ensures { (s : Setting) (p : Process) → IsAskedOf s p of.now → least_due s p defs.Echoes ≡ option_map stmt result }
 {
     let view = view_of(of);
     let (sender, number) = echo_due(of.pool, of.own)?;
@@ -95,7 +95,7 @@ fn echo<'a>(of: &Standing<'a>) -> Option<Statement<'a>>
 // The Order that is due.
 fn order<'a>(of: &Standing<'a>) -> Option<Statement<'a>>
     requires { IsSeated of.now }
-    ensures { (s : Setting) (p : Process) → Stands s p of.now → least_due s p defs.Orders ≡ option_map stmt result }
+    ensures { (s : Setting) (p : Process) → IsAskedOf s p of.now → least_due s p defs.Orders ≡ option_map stmt result }
 {
     let (place, batch) = order_due(of.pool, of.own, of.batch_limit)?;
     let view = view_of(of);
@@ -104,7 +104,7 @@ fn order<'a>(of: &Standing<'a>) -> Option<Statement<'a>>
 
 // The Place that is due.
 fn place<'a>(of: &Standing<'a>) -> Option<Statement<'a>>
-    ensures { (s : Setting) (p : Process) → Stands s p of.now → least_due s p defs.Places ≡ option_map stmt result }
+    ensures { (s : Setting) (p : Process) → IsAskedOf s p of.now → least_due s p defs.Places ≡ option_map stmt result }
 {
     let (place, batch) = place_due(of.pool, of.own)?;
     let view = view_of(of);
@@ -113,7 +113,7 @@ fn place<'a>(of: &Standing<'a>) -> Option<Statement<'a>>
 
 // The Keep that is due.
 fn keep<'a>(of: &Standing<'a>) -> Option<Statement<'a>>
-    ensures { (s : Setting) (p : Process) → Stands s p of.now → least_due s p defs.Keeps ≡ option_map stmt result }
+    ensures { (s : Setting) (p : Process) → IsAskedOf s p of.now → least_due s p defs.Keeps ≡ option_map stmt result }
 {
     let (place, batch) = keep_due(of.pool, of.own)?;
     let view = view_of(of);
@@ -122,7 +122,7 @@ fn keep<'a>(of: &Standing<'a>) -> Option<Statement<'a>>
 
 // The Notify that is due.
 fn notify<'a>(of: &Standing<'a>) -> Option<Statement<'a>>
-    ensures { (s : Setting) (p : Process) → Stands s p of.now → least_due s p defs.Notifies ≡ option_map stmt result }
+    ensures { (s : Setting) (p : Process) → IsAskedOf s p of.now → least_due s p defs.Notifies ≡ option_map stmt result }
 {
     let update = notify_due(of.pool, of.own, of.perceived)?;
     let view = view_of(of);
@@ -131,7 +131,7 @@ fn notify<'a>(of: &Standing<'a>) -> Option<Statement<'a>>
 
 // The End that is due.
 fn end<'a>(of: &Standing<'a>) -> Option<Statement<'a>>
-    ensures { (s : Setting) (p : Process) → Stands s p of.now → least_due s p defs.Ends ≡ option_map stmt result }
+    ensures { (s : Setting) (p : Process) → IsAskedOf s p of.now → least_due s p defs.Ends ≡ option_map stmt result }
 {
     let length = end_due(of.pool, of.own)?;
     let view = view_of(of);
@@ -140,7 +140,7 @@ fn end<'a>(of: &Standing<'a>) -> Option<Statement<'a>>
 
 // The Ready that is due.
 fn ready<'a>(of: &Standing<'a>) -> Option<Statement<'a>>
-    ensures { (s : Setting) (p : Process) → Stands s p of.now → least_due s p defs.Readies ≡ option_map stmt result }
+    ensures { (s : Setting) (p : Process) → IsAskedOf s p of.now → least_due s p defs.Readies ≡ option_map stmt result }
 {
     let (rank, value) = ready_due(of.pool, of.own)?;
     let view = view_of(of);
@@ -149,7 +149,7 @@ fn ready<'a>(of: &Standing<'a>) -> Option<Statement<'a>>
 
 // The Last that is due.
 fn last<'a>(of: &Standing<'a>) -> Option<Statement<'a>>
-    ensures { (s : Setting) (p : Process) → Stands s p of.now → least_due s p defs.Lasts ≡ option_map stmt result }
+    ensures { (s : Setting) (p : Process) → IsAskedOf s p of.now → least_due s p defs.Lasts ≡ option_map stmt result }
 {
     let (rank, ready) = last_due(of.pool, of.own)?;
     let view = view_of(of);
@@ -158,7 +158,7 @@ fn last<'a>(of: &Standing<'a>) -> Option<Statement<'a>>
 
 // The Suggest that is due.
 fn suggest<'a>(of: &Standing<'a>) -> Option<Statement<'a>>
-    ensures { (s : Setting) (p : Process) → Stands s p of.now → least_due s p defs.Suggests ≡ option_map stmt result }
+    ensures { (s : Setting) (p : Process) → IsAskedOf s p of.now → least_due s p defs.Suggests ≡ option_map stmt result }
 {
     let (rank, value) = next_suggest(of.pool, of.own)?;
     let view = view_of(of);
@@ -167,7 +167,7 @@ fn suggest<'a>(of: &Standing<'a>) -> Option<Statement<'a>>
 
 // The Ack that is due.
 fn ack<'a>(of: &Standing<'a>) -> Option<Statement<'a>>
-    ensures { (s : Setting) (p : Process) → Stands s p of.now → least_due s p defs.Acks ≡ option_map stmt result }
+    ensures { (s : Setting) (p : Process) → IsAskedOf s p of.now → least_due s p defs.Acks ≡ option_map stmt result }
 {
     let (rank, value) = next_ack(of.pool, of.own)?;
     let view = view_of(of);
@@ -177,7 +177,7 @@ fn ack<'a>(of: &Standing<'a>) -> Option<Statement<'a>>
 /// Whether a statement of the kind is due. None is made.
 pub fn is_due(of: &Standing<'_>, kind: Kind) -> bool
     requires { IsSeated of.now }
-    ensures { (s : Setting) (p : Process) → Stands s p of.now → result ≡ is_some (least_due s p (kind_of kind)) }
+    ensures { (s : Setting) (p : Process) → IsAskedOf s p of.now → result ≡ is_some (least_due s p (kind_of kind)) }
 {
     let pool = of.pool;
     let own = of.own;
@@ -200,7 +200,7 @@ pub fn is_due(of: &Standing<'_>, kind: Kind) -> bool
 /// entry for each member, and the batch limit is from 1 to 16.
 pub fn due<'a>(of: &Standing<'a>, kind: Kind) -> Option<Statement<'a>>
     requires { IsSeated of.now }
-    ensures { (s : Setting) (p : Process) → Stands s p of.now → least_due s p (kind_of kind) ≡ option_map stmt result }
+    ensures { (s : Setting) (p : Process) → IsAskedOf s p of.now → least_due s p (kind_of kind) ≡ option_map stmt result }
 {
     match kind {
         Kind::Init => init(of),

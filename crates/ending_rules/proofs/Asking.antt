@@ -20,7 +20,7 @@ use Rattle.pool_laws.proofs.Places.{mem-range}
 use Rattle.pool_laws.proofs.Tests.{yes-is, is-yes}
 use Rattle.rule_laws.proofs.Numbers.{same-test}
 use Rattle.ending_rules.specs.declared.notifies.Perceived.{Perceived}
-use Rattle.ending_rules.specs.Perceiving.{has_update, with_update, TellsPerceived}
+use Rattle.ending_rules.specs.Perceiving.{has_update, with_update, IsPerceivedOf}
 
 -- ---- the set
 
@@ -91,8 +91,8 @@ same-pair x u v = same-test _ _
     (let same = yes-is (Update-discrete ℕ_discrete u v) e in λ i. (x, same i)))
 
 -- what the set tells before, the set with the update tells after
-pub perceives-reported : (set : Perceived) (p : Process) (u : Update) → TellsPerceived set p
-    → TellsPerceived (with_update set u) (perceives p u)
+pub perceives-reported : (set : Perceived) (p : Process) (u : Update) → IsPerceivedOf set p
+    → IsPerceivedOf (with_update set u) (perceives p u)
 perceives-reported set p u tells = go (is_perceived p (p.pool.view.number, u)) refl
   where
     x : ℕ
@@ -106,7 +106,7 @@ perceives-reported set p u tells = go (is_perceived p (p.pool.view.number, u)) r
     absorbed false b so = refl
 
     go : (b : Bool) → is_perceived p (p.pool.view.number, u) ≡ b
-        → TellsPerceived (with_update set u)
+        → IsPerceivedOf (with_update set u)
         (if b then p else record p { perceived = put perceived_numbers (p.pool.view.number, u) p.perceived })
     go true there v =
         tells v ∙ absorbed (same_update u v) (has_update set v)

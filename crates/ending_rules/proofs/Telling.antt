@@ -12,7 +12,7 @@ use Rattle.group_defs.specs.Due.{least_due}
 use Rattle.pool_laws.specs.Least.{IsLeastBelow}
 use Rattle.pool_laws.proofs.Ranks.{rank-of-member}
 use Rattle.own_place.specs.declared.own.Own.{Own}
-use Rattle.own_place.specs.Owns.{Tells}
+use Rattle.own_place.specs.Owns.{IsOwnOf}
 use Rattle.own_place.specs.Signed.{has_slot}
 use Rattle.rule_laws.specs.Heard.{IsPool}
 use Rattle.rule_laws.specs.Perceived.{may_end, may_notify, update_at}
@@ -21,7 +21,7 @@ use Rattle.rule_laws.proofs.Numbers.{least-same}
 use Rattle.rule_laws.proofs.Outside.{outsider_signs_none}
 use Rattle.rule_laws.proofs.Ranks.{rank-at, at-member}
 use Rattle.ending_rules.specs.declared.notifies.Perceived.{Perceived}
-use Rattle.ending_rules.specs.Perceiving.{has_update, is_notify_open, TellsPerceived}
+use Rattle.ending_rules.specs.Perceiving.{has_update, is_notify_open, IsPerceivedOf}
 
 -- with the same keys the same updates are possible
 pub possible-by : (keys others : List ℕ) → ((q : ℕ) → has keys q ≡ has others q) → (v : View) (u : Update)
@@ -43,7 +43,7 @@ member-some v m = go (is_member v m) refl (rank_of v m) refl
 pub some-value : Value
 some-value = record { update = Renew; cut = 0 }
 
-module _ (s : Setting) (p : Process) (h : Pool) (own : Own) (tells : Tells s p h own) where
+module _ (s : Setting) (p : Process) (h : Pool) (own : Own) (tells : IsOwnOf s p h own) where
   pub same-pool : IsPool h → IsPool p.pool
   same-pool pool = subst IsPool (sym tells.pool) pool
 
@@ -76,7 +76,7 @@ module _ (s : Setting) (p : Process) (h : Pool) (own : Own) (tells : Tells s p h
       tells.signed.slots (Notify p.pool.view.number u) refl
       ∙ ap (λ (k : Pool). has_slot own.signed (NotifyAt k.view.number u)) tells.pool
 
-  may-notify : (set : Perceived) → TellsPerceived set p → (i : ℕ) → may_notify s p i ≡ is_notify_open h own set i
+  may-notify : (set : Perceived) → IsPerceivedOf set p → (i : ℕ) → may_notify s p i ≡ is_notify_open h own set i
   may-notify set perceived i =
       λ j. perceived (update_at i) j && possible j && not (notify-signed (update_at i) j)
     where
@@ -84,7 +84,7 @@ module _ (s : Setting) (p : Process) (h : Pool) (own : Own) (tells : Tells s p h
       possible = possible-by (keyed s) own.keyed tells.keys p.pool.view (update_at i) ∙ ap
           (λ (k : Pool). is_possible own.keyed k.view (update_at i)) tells.pool
 
-  pub notify-is : (set : Perceived) → TellsPerceived set p → ((u : Update) → has_update set u ≡ true → IsUpdate u) → (q : ℕ)
+  pub notify-is : (set : Perceived) → IsPerceivedOf set p → ((u : Update) → has_update set u ≡ true → IsUpdate u) → (q : ℕ)
       → own.position ≡ Some q
       → (o : Option ℕ) → IsLeastBelow 129 (is_notify_open h own set) o
       → least_due s p Notifies ≡ option_map (λ i. Notify h.view.number (update_at i)) o
@@ -94,7 +94,7 @@ module _ (s : Setting) (p : Process) (h : Pool) (own : Own) (tells : Tells s p h
       ∙ ap (λ (k : Pool). option_map (λ i. Notify k.view.number (update_at i)) o) tells.pool
 
   -- nothing is perceived
-  pub notify-none : (set : Perceived) → TellsPerceived set p → ((u : Update) → has_update set u ≡ false) → least_due s p Notifies ≡ None
+  pub notify-none : (set : Perceived) → IsPerceivedOf set p → ((u : Update) → has_update set u ≡ false) → least_due s p Notifies ≡ None
   notify-none set perceived none = go own.position refl
     where
       go : (o : Option ℕ) → own.position ≡ o → least_due s p Notifies ≡ None

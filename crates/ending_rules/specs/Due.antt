@@ -6,7 +6,7 @@ use Rattle.group_defs.specs.Process.{Kind, Setting, Pool, Process, keyed}
 use Rattle.group_defs.specs.Due.{least_due}
 use Rattle.rule_laws.specs.Heard.{IsPool}
 use Rattle.own_place.specs.declared.own.Own.{Own}
-use Rattle.own_place.specs.Owns.{Tells}
+use Rattle.own_place.specs.Owns.{IsOwnOf}
 
 -- the place has the setting's processes with keys
 abbrev pub HasKeys : Setting → Own → Type 0
@@ -14,7 +14,7 @@ HasKeys s own = (q : ℕ) → has (keyed s) q ≡ has own.keyed q
 
 -- the statement is the least of its kind that is due to each process whose place and pool these are; none where none is due
 abbrev pub IsLeastDue : Pool → Own → Kind → Option Statement → Type 0
-IsLeastDue h own kind o = IsPool h → (s : Setting) (p : Process) → Tells s p h own → least_due s p kind ≡ o
+IsLeastDue h own kind o = IsPool h → (s : Setting) (p : Process) → IsOwnOf s p h own → least_due s p kind ≡ o
 
 -- the number is below the other one, where there is one
 abbrev pub is_below : ℕ → Option ℕ → Bool

@@ -29,8 +29,8 @@ with_update set (Add q) = record set { add = put_once q set.add }
 with_update set Renew = record set { renew = true }
 
 -- the set is what the process perceived in its current view
-abbrev pub TellsPerceived : Perceived → Process → Type 0
-TellsPerceived set p = (u : Update) → is_perceived p (p.pool.view.number, u) ≡ has_update set u
+abbrev pub IsPerceivedOf : Perceived → Process → Type 0
+IsPerceivedOf set p = (u : Update) → is_perceived p (p.pool.view.number, u) ≡ has_update set u
 
 -- the event that asks for the update
 abbrev pub asking : Update → defs.Event

@@ -11,9 +11,9 @@ ghost use Rattle.group_defs.specs.Due.{least_due};
 ghost use Rattle.group_defs.specs.Events.{refusal, perceives};
 ghost use Rattle.pool_laws.specs.Least.{IsLeastBelow};
 ghost use Rattle.rp_base.specs.Views.{update as update_of};
-ghost use Rattle.own_place.specs.Owns.{Tells};
+ghost use Rattle.own_place.specs.Owns.{IsOwnOf};
 ghost use Rattle.rule_laws.specs.Perceived.{most_updates};
-ghost use Rattle.ending_rules.specs.Perceiving.{asking, asking_fault, fault as fault_of, has_update, is_notify_open, TellsPerceived};
+ghost use Rattle.ending_rules.specs.Perceiving.{asking, asking_fault, fault as fault_of, has_update, is_notify_open, IsPerceivedOf};
 
 use crate::updates::{MOST_UPDATES, update_at};
 use pool_questions::{EventFault, Own, Pool, Slot};
@@ -108,7 +108,7 @@ pub fn perceive(
     ensures exactly { (s : Setting) (p : Process) → ((q : ℕ) → has (keyed_by s) q ≡ has keyed q) → p.pool.view ≡ view.now
         → IsTrue (is_member p.pool.view p.me) → p.halted ≡ false
         → refusal s p (asking (update_of update)) ≡ option_map fault_of (result_err result) }
-    ensures taken { OnOk result ((p : Process) → TellsPerceived set.old p → TellsPerceived set.new (perceives p (update_of update))) }
+    ensures taken { OnOk result ((p : Process) → IsPerceivedOf set.old p → IsPerceivedOf set.new (perceives p (update_of update))) }
     ensures same { OnErr result (set.new ≡ set.old) }
 {
     match refused(view, keyed, &update) {
@@ -146,7 +146,7 @@ fn open_number(pool: &Pool, own: &Own, set: &Perceived) -> Option<u8>
 /// The update of the least Notify that is due: the least one that is asked for and possible, and whose Notify is not signed.
 /// None exactly where none is due.
 pub fn notify_due(pool: &Pool, own: &Own, set: &Perceived) -> Option<Update>
-    ensures { (s : Setting) (p : Process) → Tells s p pool.now.pool own.now → TellsPerceived set.now p
+    ensures { (s : Setting) (p : Process) → IsOwnOf s p pool.now.pool own.now → IsPerceivedOf set.now p
         → least_due s p Notifies ≡ option_map (λ u. Notify pool.now.pool.view.number (update_of u)) result }
 {
     own.position?;

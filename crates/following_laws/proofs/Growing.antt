@@ -18,7 +18,7 @@ use Rattle.safety_laws.proofs.Induction.{Keeps, run-keeps}
 use Rattle.safety_laws.proofs.ViewsOf.{length-views}
 use Rattle.store_defs.specs.Stores.{Store, answer_to, store_after, store_bytes}
 use Rattle.store_defs.specs.Records.{Reply, StateRecord}
-use Rattle.store_defs.specs.Holding.{Beginning, Gives, Replies, Stands, delivered_below, holds, payloads_of, stayed, store_at, store_over, was_member}
+use Rattle.store_defs.specs.Holding.{Beginning, Gives, Replies, IsDeliveredHere, delivered_below, holds, payloads_of, stayed, store_at, store_over, was_member}
 use Rattle.store_laws.proofs.Holding.{stayed-in}
 use Rattle.following_laws.specs.Laws.{GivesStay, RepliesStay}
 
@@ -198,7 +198,7 @@ module _ (p r : Process) (on : Extends p r) where
     store-is begun = over-same was later (length p.left) delivered-same b.store b.view (x - b.view) (omega (arith, begun, le))
 
   -- a message that it delivered is of a view that it left, or of its own
-  within : (x : ℕ) (at : Stands (delivered_in was x)) → x ≤ length p.left
+  within : (x : ℕ) (at : IsDeliveredHere (delivered_in was x)) → x ≤ length p.left
   within x at = go (compared x (length p.left))
     where
       go : Compared x (length p.left) → x ≤ length p.left
@@ -217,16 +217,16 @@ module _ (p r : Process) (on : Extends p r) where
 
   pub still-replies : (b : Beginning) (leaf : ℕ) (w : Reply) → Replies was b leaf w → Replies later b leaf w
   still-replies b leaf w ok =
-      let le = within w.view ok.stands in
+      let le = within w.view ok.delivery in
       let begun = begun-by b w.view ok.holds in
       let more = here-more w.view le in
       record {
-        stands = record {
-          before = ok.stands.before;
-          at = ok.stands.at;
-          behind = ok.stands.behind ++ more.0;
-          parts = sym more.1 ∙ ap (λ ds. ds ++ more.0) ok.stands.parts
-              ∙ append_assoc ok.stands.before (ok.stands.at ∷ ok.stands.behind) more.0;
+        delivery = record {
+          before = ok.delivery.before;
+          at = ok.delivery.at;
+          behind = ok.delivery.behind ++ more.0;
+          parts = sym more.1 ∙ ap (λ ds. ds ++ more.0) ok.delivery.parts
+              ∙ append_assoc ok.delivery.before (ok.delivery.at ∷ ok.delivery.behind) more.0;
         };
         holds = holds-is b w.view le begun ∙ ok.holds;
         signer = ok.signer ∙ sym on.me;
@@ -234,8 +234,8 @@ module _ (p r : Process) (on : Extends p r) where
         position = ok.position;
         payload = ok.payload;
         answer = ok.answer
-            ∙ ap (λ s. answer_to (store_after s (payloads_of ok.stands.before)) ok.stands.at.payload) (sym (store-is b w.view le begun));
-        leaf_is = ok.leaf_is ∙ ap (λ n. n + length ok.stands.before) (sym (below-is b w.view le));
+            ∙ ap (λ s. answer_to (store_after s (payloads_of ok.delivery.before)) ok.delivery.at.payload) (sym (store-is b w.view le begun));
+        leaf_is = ok.leaf_is ∙ ap (λ n. n + length ok.delivery.before) (sym (below-is b w.view le));
       }
 
   pub still-gives : (b : Beginning) (w : StateRecord) → Gives was b w → Gives later b w

@@ -345,7 +345,7 @@ module _ (p done : Process) (on : GoesOn p done) (numbered : p.pool.view.number 
       let it = signed-is q heard-server x d w e in
       let store = stored-so it.0 it.1 in
       subst (Replies now b heard-server.delivered) it.2 (record {
-        stands = record { before = p.delivered ++ before; at = d; behind = later; parts = here-parts };
+        delivery = record { before = p.delivered ++ before; at = d; behind = later; parts = here-parts };
         holds = holds-is p done grown b x at-most ok.begun ∙ store.0;
         signer = me ∙ sym on.me;
         place = refl;

@@ -29,7 +29,7 @@ use Rattle.store_laws.proofs.Holding as laws
 use Rattle.store_laws.proofs.Joining.{right}
 use Rattle.store_laws.proofs.Leaves.{one_reply_per_leaf, one_state_per_leaf}
 use Rattle.following_laws.specs.Laws.{Collects, FollowsOffers, OpensPlaces, with_offer}
-use Rattle.following_laws.specs.Runs.{Happens, Moment, RunGives, RunHolds, RunReplies, RunsGiveOnce, RunsReplyOnce, Says, ServedRun, Step, WritesReply, WritesState, after_step, begin, reached, turns_in}
+use Rattle.following_laws.specs.Runs.{Happens, Moment, RunGives, RunHolds, RunReplies, RunsGiveOnce, RunsReplyOnce, TakesWord, ServedRun, Step, WritesReply, WritesState, after_step, begin, reached, turns_in}
 use Rattle.following_laws.proofs.Growing.{Extends, as-it-is, gives_stay, holds-is, keeps, on-along, replies_stay, store-is}
 use Rattle.following_laws.proofs.Turns.{TurnSo, turn-so}
 use Rattle.following_laws.proofs.Replying.{notes-more, quiet-stays, turn_opens_places, turn_replies}
@@ -170,9 +170,9 @@ module _ (sv : Services) (q : Place) (group : q.group ≡ sv.family.setting.grou
   -- where the step offers a state
   abbrev JoinsBy : Moment → Step → Type 0
   JoinsBy m (Happens t) = Unit {0}
-  JoinsBy m (Says Give) = Unit {0}
-  JoinsBy m (Says (State bytes)) = IsJoining (after_step setting q m (Says (State bytes)))
-  JoinsBy m (Says (StateKey p key)) = Unit {0}
+  JoinsBy m (TakesWord Give) = Unit {0}
+  JoinsBy m (TakesWord (State bytes)) = IsJoining (after_step setting q m (TakesWord (State bytes)))
+  JoinsBy m (TakesWord (StateKey p key)) = Unit {0}
 
   module _ (m : Moment) (ok : Serves sv q m) where
     with-event : (t : Turn) → Serves sv q (after_step setting q m (Happens t))
@@ -231,7 +231,7 @@ module _ (sv : Services) (q : Place) (group : q.group ≡ sv.family.setting.grou
     with-step : (step : Step) → JoinsBy m step → Serves sv q (after_step setting q m step)
     unfolding after_step worded
     with-step (Happens t) joining = with-event t
-    with-step (Says Give) joining = record {
+    with-step (TakesWord Give) joining = record {
       numbered = ok.numbered;
       me = ok.me;
       beginning = ok.beginning;
@@ -240,8 +240,8 @@ module _ (sv : Services) (q : Place) (group : q.group ≡ sv.family.setting.grou
       opens = ok.opens;
       collects = ok.collects;
     }
-    with-step (Says (State bytes)) joining = with-offered bytes joining
-    with-step (Says (StateKey p key)) joining = record {
+    with-step (TakesWord (State bytes)) joining = with-offered bytes joining
+    with-step (TakesWord (StateKey p key)) joining = record {
       numbered = ok.numbered;
       me = ok.me;
       beginning = ok.beginning;
@@ -258,15 +258,15 @@ module _ (sv : Services) (q : Place) (group : q.group ≡ sv.family.setting.grou
     }
 
   abbrev AreJoinings : Moment → List Step → Type 0
-  AreJoinings m steps = (front : List Step) (bytes : List ℕ) → IsPrefixOf (front ++ Says (State bytes) ∷ []) steps
-      → IsJoining (reached setting q m (front ++ Says (State bytes) ∷ []))
+  AreJoinings m steps = (front : List Step) (bytes : List ℕ) → IsPrefixOf (front ++ TakesWord (State bytes) ∷ []) steps
+      → IsJoining (reached setting q m (front ++ TakesWord (State bytes) ∷ []))
 
   first-joins : (m : Moment) (step : Step) (steps : List Step) → AreJoinings m (step ∷ steps) → JoinsBy m step
   unfolding reached
   first-joins m (Happens t) steps joinings = tt
-  first-joins m (Says Give) steps joinings = tt
-  first-joins m (Says (State bytes)) steps joinings = joinings [] bytes (steps, refl)
-  first-joins m (Says (StateKey p key)) steps joinings = tt
+  first-joins m (TakesWord Give) steps joinings = tt
+  first-joins m (TakesWord (State bytes)) steps joinings = joinings [] bytes (steps, refl)
+  first-joins m (TakesWord (StateKey p key)) steps joinings = tt
 
   along : (steps : List Step) (m : Moment) → Serves sv q m → AreJoinings m steps → Serves sv q (reached setting q m steps)
   unfolding reached
@@ -280,12 +280,12 @@ module _ (sv : Services) (q : Place) (group : q.group ≡ sv.family.setting.grou
   unfolding reached after_step run
   process-is [] m = refl
   process-is (Happens t ∷ steps) m = process-is steps (after_step setting q m (Happens t))
-  process-is (Says word ∷ steps) m = process-is steps (after_step setting q m (Says word))
+  process-is (TakesWord word ∷ steps) m = process-is steps (after_step setting q m (TakesWord word))
 
 turns-append : (front back : List Step) → turns_in (front ++ back) ≡ turns_in front ++ turns_in back
 turns-append [] back = refl
 turns-append (Happens t ∷ front) back = ap (λ ts. t ∷ ts) (turns-append front back)
-turns-append (Says word ∷ front) back = turns-append front back
+turns-append (TakesWord word ∷ front) back = turns-append front back
 
 -- ---- a run of a correct process
 
@@ -310,7 +310,7 @@ module _ (sv : Services) (c : Correct) (q : Place) (steps : List Step) (it : Ser
   serves-at front rest parts = along sv q it.group front (begin begun)
       (begins-so sv q begun (run-keeps s Numbered it.earlier (numbered-keeps s _) started zeroth)
       (it.me ∙ sym (on-along s started it.earlier).me))
-      (λ f bytes is. let g : List Step = f ++ Says (State bytes) ∷ [] in
+      (λ f bytes is. let g : List Step = f ++ TakesWord (State bytes) ∷ [] in
       subst (λ n. Contains (sv.joinings n) (record { view = (at g).process.pool.view; offered = (at g).offered })) (sym it.me)
       (it.joinings f bytes (is.0 ++ rest, sym (append_assoc g is.0 rest) ∙ ap (λ l. l ++ rest) is.1 ∙ sym parts)))
 
@@ -439,7 +439,7 @@ module _ (sv : Services) (c : Correct) (q : Place) (steps : List Step) (it : Ser
   given_at = at sv c q steps it zeroth w.before
 
   serving : Serves sv q (at sv c q steps it zeroth w.before)
-  serving = serves-at sv c q steps it zeroth w.before (Says Give ∷ w.behind) w.steps_are
+  serving = serves-at sv c q steps it zeroth w.before (TakesWord Give ∷ w.behind) w.steps_are
 
   abbrev behind_it : List Turn
   behind_it = turns_in w.behind ++ it.later
@@ -448,7 +448,7 @@ module _ (sv : Services) (c : Correct) (q : Place) (steps : List Step) (it : Ser
   made-state =
       let p : Process = given_at.process in
       let on = on-along sv.family.setting p behind_it in
-      subst (λ (p : Process). MadeState sv p r) (sym (end-is sv c q steps it zeroth w.before (Says Give ∷ w.behind) w.steps_are)) (record {
+      subst (λ (p : Process). MadeState sv p r) (sym (end-is sv c q steps it zeroth w.before (TakesWord Give ∷ w.behind) w.steps_are)) (record {
         beginning = serving.beginning;
         from = subst (λ n. (serving.beginning ≡ genesis) ⊎ (TookIn sv n serving.beginning × (serving.beginning.view < r.view))) (sym on.me)
             (given-from sv q given_at serving r w.given);

@@ -22,13 +22,13 @@ use Rattle.following_laws.specs.Laws.{Offered, with_offer}
 -- an event of the process, or a word to its server
 pub data Step : Type 0 where
   Happens : (turn : Turn) → Step
-  Says : (word : Word) → Step
+  TakesWord : (word : Word) → Step
 
 -- the events among the steps, in order
 abbrev pub turns_in : List Step → List Turn
 turns_in [] = []
 turns_in (Happens t ∷ steps) = t ∷ turns_in steps
-turns_in (Says word ∷ steps) = turns_in steps
+turns_in (TakesWord word ∷ steps) = turns_in steps
 
 -- a process that serves, its server, and the records that were offered to it in its view
 pub record Moment : Type 0 where
@@ -56,7 +56,7 @@ after_step setting q m (Happens t) =
       server = after_notes q m.server (outcome setting m.process t).notes;
       offered = if nat_lt (length m.process.left) (length p.left) then [] else m.offered;
     }
-after_step setting q m (Says word) = record m {
+after_step setting q m (TakesWord word) = record m {
   server = (worded setting.valid q (payloads_of m.process.delivered) m.server word).1;
   offered = with_word q m word;
 }
@@ -86,7 +86,7 @@ pub record WritesReply (setting : Setting) (q : Place) (m : Moment) (steps : Lis
 pub record WritesState (setting : Setting) (q : Place) (m : Moment) (steps : List Step) (r : StateRecord) : Type 0 where
   pub before : List Step
   pub behind : List Step
-  pub steps_are : steps ≡ before ++ Says Give ∷ behind
+  pub steps_are : steps ≡ before ++ TakesWord Give ∷ behind
   pub given : state_given q (reached setting q m before).server ≡ Given r
 
 -- ---- runs of a correct process
@@ -99,9 +99,9 @@ pub record ServedRun (sv : Services) (c : Correct) (q : Place) (steps : List Ste
   pub earlier : List Turn
   pub later : List Turn
   pub turns : c.turns ≡ earlier ++ (turns_in steps ++ later)
-  pub joinings : (front : List Step) (bytes : List ℕ) → IsPrefixOf (front ++ Says (State bytes) ∷ []) steps
+  pub joinings : (front : List Step) (bytes : List ℕ) → IsPrefixOf (front ++ TakesWord (State bytes) ∷ []) steps
       → let m = reached sv.family.setting q (begin (run sv.family.setting (start sv.family.setting c.me c.batch_limit) earlier))
-      (front ++ Says (State bytes) ∷ []) in
+      (front ++ TakesWord (State bytes) ∷ []) in
       Contains (sv.joinings c.me) (record { view = m.process.pool.view; offered = m.offered })
 
 -- where it begins

@@ -2,10 +2,10 @@
 -- Names here (* for this crate alone):
 --   Kind, all_kinds, Setting, keyed, key_of, Pool, Letter, Letter-discrete, Delivered, letter_of, Delivered-discrete, without_places,
 --     places_in, Left, Process, start
---   as the reports see it: views_of, deliveries_of, delivered_from, earlier
+--   as the reports see it: views_of, deliveries_of, delivered_from, earlier, signers_in, liars_of
 use Rattle.std.specs.Prelude.{ℕ, ◌+◌, Bool, false, ◌==◌, max, List, [], ◌∷◌, ◌++◌, map, find, count_by, fold, sum, Option, None, option_map}
 use native.Mathlib.Decide.{ℕ_discrete}
-use Rattle.message_defs.specs.Below.{both, bytes_discrete}
+use Rattle.message_defs.specs.Below.{both, bytes_discrete, sorted}
 use Rattle.group_defs.specs.Views.{View}
 use Rattle.message_defs.specs.Updates.{Update, Value}
 use Rattle.message_defs.specs.Statements.{Message, Message-discrete, Claim}
@@ -142,3 +142,11 @@ delivered_from sender ds = count_by (λ d. d.message.sender == sender) ds
 -- the own messages delivered in the views that were left
 abbrev pub earlier : Process → ℕ
 earlier p = sum (map (λ v. delivered_from p.me v.delivered) p.left)
+
+-- the signers of these pairs, rising
+abbrev pub signers_in : List (Claim × Claim) → List ℕ
+signers_in pairs = sorted (λ q. q ∷ []) (map (λ pair. pair.0.signer) pairs)
+
+-- the signers with a kept conflict, rising
+abbrev pub liars_of : Process → List ℕ
+liars_of p = signers_in p.conflicts

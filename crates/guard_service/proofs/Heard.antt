@@ -6,7 +6,7 @@ use Rattle.member_events.specs.declared.events.Sending.{Sending}
 use Rattle.node_defs.specs.Casts.{Cast}
 use Rattle.node_defs.specs.Nodes.{Answer, Call, Done, Said, Words}
 use Rattle.node_service.specs.Histories.{Asked, one_asked}
-use Rattle.node_service.specs.Answers.{GoesOn, HasNone, SaysTo, Tells, letters_in}
+use Rattle.node_service.specs.Answers.{GoesOn, HasNone, SaysTo, HasAnswered, letters_in}
 use Rattle.guard_defs.specs.Lines.{accuse_line}
 use Rattle.guard_service.specs.Accusing.{HasAccused}
 use Rattle.guard_service.specs.Answers.{AnswersOf, AnswersWord, AreGuards, IsGuards, accused_in}
@@ -26,7 +26,7 @@ adds_nothing old = ([], sym (append-nil old))
 module _ {V : Type 0} (service : V) (h : List Asked) (c : Cast) (are : AreGuards h) where
   -- nothing was said
   pub tells_nothing : (shown : List Process) (call : Call) (old : List ℕ) → AnswersOf c.setting shown call (Said [] [])
-      → Tells (λ (v : V) (i : List Asked). AreGuards i) service h c shown call old old
+      → HasAnswered (λ (v : V) (i : List Asked). AreGuards i) service h c shown call old old
   tells_nothing shown call old is = record {
     text = [];
     reported = sym (append-nil old);

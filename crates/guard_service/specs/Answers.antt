@@ -5,7 +5,7 @@ use Rattle.std.specs.List.{AllByRecursion}
 use Rattle.text_defs.specs.Words.{words_of}
 use Rattle.group_defs.specs.Process.{Setting, Process}
 use Rattle.node_defs.specs.Casts.{handed}
-use Rattle.node_defs.specs.Nodes.{Call, Serves, TellsOf, Asks, Words, Answer, Done, Said}
+use Rattle.node_defs.specs.Nodes.{Call, Serves, NotesOf, Asks, Words, Answer, Done, Said}
 use Rattle.node_service.specs.Histories.{Asked}
 use Rattle.node_service.specs.Answers.{named_by}
 use Rattle.guard_defs.specs.Guarding.{next_suspect}
@@ -33,7 +33,7 @@ OfOne P _ = ⊥
 -- the answer to the call, where these processes are shown
 abbrev pub AnswersOf : Setting → List Process → Call → Answer → Type 0
 AnswersOf s shown Serves a = a ≡ Said [] []
-AnswersOf s shown (TellsOf p note) a = a ≡ Said [] []
+AnswersOf s shown (NotesOf p note) a = a ≡ Said [] []
 AnswersOf s shown (Asks p e notes above) a = OfOne (λ now. a ≡ named_by (next_suspect s (handed e) notes now above)) shown
 AnswersOf s shown (Words p line) a = OfOne (λ now. AnswersWord s now (accused_in line) a) shown
 AnswersOf s shown _ a = ⊥

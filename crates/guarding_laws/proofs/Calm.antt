@@ -10,7 +10,7 @@ use Rattle.guard_defs.specs.Guarding.{may_expel, shown_by}
 use Rattle.node_defs.specs.Scripts.{Line, Of, Snap, Hand, Receive, Other, line_said, most_lines}
 use Rattle.node_defs.specs.Lines.{Stop, Full, BadLine}
 use Rattle.node_defs.specs.Casts.{Cast, handed, outcome_of, entry_for}
-use Rattle.node_defs.specs.Nodes.{Node, Leaving, Sends, Tells, Task, Take, Append, Flush, Say, Ask, Get, Word, Post, Mark, Call, Binds, Writes, Serves, Finishes, SendsTo, TellsOf, Steps, Appends, Asks, ReceivesOn, Words, Marks, ReadsLine, Rests, Answer, Done, Failed, Unremembered, Came, Broken, Said, Named, Digest, Change, Snapper, task_call, goes, ends, done_or, is_full, after_step, more_gets, after_came, post_tasks, after_get, after_task, after_leaving, after_line, after_read}
+use Rattle.node_defs.specs.Nodes.{Node, Leaving, Sends, Notes, Task, Take, Append, Flush, Say, Ask, Get, Word, Post, Mark, Call, Binds, Writes, Serves, Finishes, SendsTo, NotesOf, Steps, Appends, Asks, ReceivesOn, Words, Marks, ReadsLine, Rests, Answer, Done, Failed, Unremembered, Came, Broken, Said, Named, Digest, Change, Snapper, task_call, goes, ends, done_or, is_full, after_step, more_gets, after_came, post_tasks, after_get, after_task, after_leaving, after_line, after_read}
 use Rattle.guarding_laws.specs.Marks.{is_guards, mark}
 
 -- ---- tasks
@@ -99,7 +99,7 @@ IsPlain (Writes text) = Unit {0}
 IsPlain Serves = Unit {0}
 IsPlain Finishes = Unit {0}
 IsPlain (SendsTo port datagram) = Unit {0}
-IsPlain (TellsOf q note) = Unit {0}
+IsPlain (NotesOf q note) = Unit {0}
 IsPlain (Steps q e) = Unit {0}
 IsPlain (Appends entry) = ⊥
 IsPlain (Asks q e notes above) = ⊥
@@ -115,7 +115,7 @@ done-none by (Writes text) plain = refl
 done-none by Serves plain = refl
 done-none by Finishes plain = refl
 done-none by (SendsTo port datagram) plain = refl
-done-none by (TellsOf q note) plain = refl
+done-none by (NotesOf q note) plain = refl
 done-none by (Steps q e) plain = refl
 done-none by (Appends entry) plain = absurd plain
 done-none by (Asks q e notes above) plain = refl
@@ -141,7 +141,7 @@ came-same by (Writes text) bytes plain = refl
 came-same by Serves bytes plain = refl
 came-same by Finishes bytes plain = refl
 came-same by (SendsTo port datagram) bytes plain = refl
-came-same by (TellsOf q note) bytes plain = refl
+came-same by (NotesOf q note) bytes plain = refl
 came-same by (Steps q e) bytes plain = refl
 came-same by (Appends entry) bytes plain = refl
 came-same by (Asks q e notes above) bytes plain = refl
@@ -157,7 +157,7 @@ named-same by (Writes text) who plain = refl
 named-same by Serves who plain = refl
 named-same by Finishes who plain = refl
 named-same by (SendsTo port datagram) who plain = refl
-named-same by (TellsOf q note) who plain = refl
+named-same by (NotesOf q note) who plain = refl
 named-same by (Steps q e) who plain = refl
 named-same by (Appends entry) who plain = refl
 named-same by (Asks q e notes above) who plain = absurd plain
@@ -232,14 +232,14 @@ module _ (c : Cast) (p : ℕ) (n : Node) (named : List ℕ) where
   leaving-calm by ts (Sends q r frame) (Said text sends) ready = tt
   leaving-calm by ts (Sends q r frame) (Named who) ready = tt
   leaving-calm by ts (Sends q r frame) (Digest d) ready = tt
-  leaving-calm by ts (Tells q note) (Said text sends) ready = calm by ts _ refl ready
-  leaving-calm by ts (Tells q note) Done ready = tt
-  leaving-calm by ts (Tells q note) Failed ready = tt
-  leaving-calm by ts (Tells q note) Unremembered ready = tt
-  leaving-calm by ts (Tells q note) (Came bytes) ready = tt
-  leaving-calm by ts (Tells q note) Broken ready = tt
-  leaving-calm by ts (Tells q note) (Named who) ready = tt
-  leaving-calm by ts (Tells q note) (Digest d) ready = tt
+  leaving-calm by ts (Notes q note) (Said text sends) ready = calm by ts _ refl ready
+  leaving-calm by ts (Notes q note) Done ready = tt
+  leaving-calm by ts (Notes q note) Failed ready = tt
+  leaving-calm by ts (Notes q note) Unremembered ready = tt
+  leaving-calm by ts (Notes q note) (Came bytes) ready = tt
+  leaving-calm by ts (Notes q note) Broken ready = tt
+  leaving-calm by ts (Notes q note) (Named who) ready = tt
+  leaving-calm by ts (Notes q note) (Digest d) ready = tt
 
   -- a task with a plain call, and what is after it
   pub task-calm : (snap : Snapper) (by : Bool) (ts : List Task) (t : Task) (a : Answer) → IsPlain (task_call c n t) → Ready c p n.now by named (t ∷ ts)

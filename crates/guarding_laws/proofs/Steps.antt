@@ -12,7 +12,7 @@ use Rattle.guard_service.specs.Answers.{AnswersOf, AreGuards}
 use Rattle.node_defs.specs.Lines.{Stop}
 use Rattle.node_defs.specs.Lives.{AreNumbered, staged, staged_behind, staged_by}
 use Rattle.node_defs.specs.Casts.{Cast, handed, live, outcome_of, entry_for, kept_turn}
-use Rattle.node_defs.specs.Nodes.{Node, Opening, Bind, Greet, Serve, Finish, Leaving, Sends, Tells, Task, Take, Append, Flush, Say, Ask, Get, Word, Post, Mark, Call, Appends, Asks, ReceivesOn, ReadsLine, Rests, Answer, Done, Failed, Unremembered, Came, Broken, Said, Named, Digest, Change, Snapper, goes, asks, after_get, after_task, after_leaving, after_read, new_entry, with_turn, changed, if_fits, counts, by_tasks, by_leaving, opened_one, by_opening, by_answer, unless_stopped, answered, run, calls, opening_call, leaving_call, task_call, call_of_tasks, call_of_leaving, call_of_opening, call_of}
+use Rattle.node_defs.specs.Nodes.{Node, Opening, Bind, Greet, Serve, Finish, Leaving, Sends, Notes, Task, Take, Append, Flush, Say, Ask, Get, Word, Post, Mark, Call, Appends, Asks, ReceivesOn, ReadsLine, Rests, Answer, Done, Failed, Unremembered, Came, Broken, Said, Named, Digest, Change, Snapper, goes, asks, after_get, after_task, after_leaving, after_read, new_entry, with_turn, changed, if_fits, counts, by_tasks, by_leaving, opened_one, by_opening, by_answer, unless_stopped, answered, run, calls, opening_call, leaving_call, task_call, call_of_tasks, call_of_leaving, call_of_opening, call_of}
 use Rattle.node_laws.proofs.Soundness.{opens-only}
 use Rattle.node_traces.specs.Service.{Asked, asking, asked_by}
 use Rattle.pool_laws.proofs.Members.{filter-mem, find-is, mem-Contains}
@@ -325,7 +325,7 @@ module _ (c : Cast) (snap : Snapper) (p : ℕ) where
 
   leaving-plain : (l : Leaving) → IsPlain (leaving_call c l)
   leaving-plain (Sends q r frame) = tt
-  leaving-plain (Tells q note) = tt
+  leaving-plain (Notes q note) = tt
 
   leaving-step : (n : Node) (by : Bool) (named : List ℕ) (a : Answer) (ls : List Leaving) → AreNumbered n.now → Ready c p n.now by named n.tasks
       → AreGuards (asking c n.now (call_of_leaving c n ls) a) → Stepped n by named (call_of_leaving c n ls) a (by_leaving c snap n a ls)

@@ -66,8 +66,8 @@ reported_of Unasked = None
 reported_of (Kept all) = Some (map happening all.items)
 
 -- this was reported after what was reported before, where somebody asks
-abbrev pub Tells : Reported → List plain.Happening → Reported → Type 0
-Tells old what new = reported_of new ≡ option_map (λ before. before ++ what) (reported_of old)
+abbrev pub WasReported : Reported → List plain.Happening → Reported → Type 0
+WasReported old what new = reported_of new ≡ option_map (λ before. before ++ what) (reported_of old)
 
 -- ---- why a run stops
 

@@ -1,6 +1,6 @@
 //! What happens, and who asks for it.
 ghost use Rattle.std.specs.Prelude.{◌≡◌, ◌∷◌, [], is_some, OnOk};
-ghost use Rattle.happenings.specs.Reported.{happening, reported_of, Tells};
+ghost use Rattle.happenings.specs.Reported.{happening, reported_of, WasReported};
 
 use crate::seen::Seen;
 use member_events::Payload;
@@ -109,7 +109,7 @@ impl Reported {
 
     /// This happens.
     pub fn add(&mut self, what: Happening) -> Result<(), NoMemory>
-        ensures { OnOk result (Tells self.old (happening what ∷ []) self.new) }
+        ensures { OnOk result (WasReported self.old (happening what ∷ []) self.new) }
     {
         match self {
             Reported::Unasked => Ok(()),

@@ -28,12 +28,12 @@ use Rattle.image_laws.proofs.Hearing.{passed-more}
 
 -- ---- of a process
 
-abbrev pub Stands : List Delivered → Type 0
-Stands ds = StandsByPlace ds × (places_in ds ≤ most_places)
+abbrev pub FitsPlaces : List Delivered → Type 0
+FitsPlaces ds = StandsByPlace ds × (places_in ds ≤ most_places)
 
 record Placed (p : Process) : Type 0 where
-  pub lefts : (l : Left) → Mem l p.left → Stands l.delivered
-  pub here : Stands p.delivered
+  pub lefts : (l : Left) → Mem l p.left → FitsPlaces l.delivered
+  pub here : FitsPlaces p.delivered
   pub outside : is_member p.pool.view p.me ≡ false → p.delivered ≡ []
   pub placed : (k : ℕ) → k < places_in p.delivered → place_at p.pool k ≡ Some (batch_at k p.delivered)
   pub paid : (d : Delivered) → Mem d p.delivered → payload_at p.pool d.message ≡ Some d.payload
@@ -107,7 +107,7 @@ signs-in-range s p (Ready x r v) may ok = tt
 same : (p q : Process) → q.left ≡ p.left → q.delivered ≡ p.delivered → q.pool ≡ p.pool → q.me ≡ p.me → Placed p → Placed q
 same p q left del pool me ok = record {
   lefts = λ l m. ok.lefts l (subst (Mem l) left m);
-  here = subst Stands (sym del) ok.here;
+  here = subst FitsPlaces (sym del) ok.here;
   outside = λ e. del ∙ ok.outside ((λ i. is_member (sym pool i).view (sym me i)) ∙ e);
   placed = λ k lt. (λ i. place_at (pool i) k) ∙ ok.placed k (subst (λ ds. k < places_in ds) del lt) ∙ (λ i. Some (batch_at k (sym del i)));
   paid = λ d m. (λ i. payload_at (pool i) d.message) ∙ ok.paid d (subst (Mem d) del m);
@@ -215,7 +215,7 @@ module _ (p : Process) (ds : List Delivered) (ok : Placed p) (member : is_member
       filter-append (λ (d : Delivered). d.place == k) p.delivered ds
       ∙ (λ i. none-at k p.delivered (λ d m is. (let lt = below p.delivered d m in omega (arith, lt, is))) i ++ all-at k ds at i)
 
-  stands : Stands (p.delivered ++ ds)
+  stands : FitsPlaces (p.delivered ++ ds)
   stands = (
     record {
       together = ap (λ n. flat_map (λ j. at_place j (p.delivered ++ ds)) (range_with_len 0 n)) more
@@ -272,7 +272,7 @@ module _ (p : Process) (ds : List Delivered) (ok : Placed p) (member : is_member
 
 -- ---- each change
 
-pub nothing-stands : Stands []
+pub nothing-stands : FitsPlaces []
 nothing-stands = (record { together = refl; batches = λ k lt. absurd (omega (arith, lt)) }, omega arith)
 
 keeps-placed : (s : Setting) (from : List Claim) → ((c : Claim) → Mem c from → InRange c.statement) → Keeps s from Placed
@@ -285,7 +285,7 @@ keeps-placed s from all = record {
   decides = λ p ok. same p _ refl refl refl refl ok;
   delivers = λ p ds member room e ok. delivers-one p ds ok member e;
   installs = λ p d decided whole ok. record {
-    lefts = each-snoc (λ (l : Left). Stands l.delivered) p.left _ ok.lefts ok.here;
+    lefts = each-snoc (λ (l : Left). FitsPlaces l.delivered) p.left _ ok.lefts ok.here;
     here = nothing-stands;
     outside = λ out. refl;
     placed = λ k lt. absurd (omega (arith, lt));

@@ -9,7 +9,7 @@ use Rattle.image_defs.specs.Images.{image_of}
 use Rattle.image_defs.specs.Kept.{IsKept}
 use Rattle.image_laws.specs.Keeping.{InRange, LeftFits, HeardFits, SignedFits, PlacedFits, DecisionFits, AcceptedFits, PerceivedFits}
 
--- the seven facts of a process
+-- what must be so of a process for its image to be kept
 pub record Fits (s : Setting) (p : Process) : Type 0 where
   pub left : LeftFits s p
   pub heard : HeardFits s p
@@ -19,12 +19,13 @@ pub record Fits (s : Setting) (p : Process) : Type 0 where
   pub accepted : AcceptedFits p
   pub perceived : PerceivedFits s p
 
--- A run of a process that fits leaves one that fits: where all that it has signed by then is valid, and what was handed to it is in range.
+-- If a process fits, it fits after a run too, where every claim that it has signed by then is valid, and every statement that was handed
+-- to it is in range.
 abbrev pub RunsFit : Type 0
 RunsFit = (s : Setting) (p : Process) (turns : List Turn) → All (λ c. IsTrue (is_valid s c)) (run s p turns).signed
     → All (λ c. InRange c.statement) (handed_to turns) → Fits s p → Fits s (run s p turns)
 
--- So the image of a process is kept that began in a genesis view.
+-- So if a process begins in a genesis view, its image is kept after any such run.
 abbrev pub ImagesAreKept : Type 0
 ImagesAreKept = (s : Setting) (me batch_limit : ℕ) (turns : List Turn) → IsView s.genesis
     → All (λ c. IsTrue (is_valid s c)) (run s (start s me batch_limit) turns).signed

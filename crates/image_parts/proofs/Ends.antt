@@ -8,7 +8,7 @@ use Rattle.group_defs.specs.Process.{Process}
 use Rattle.group_defs.specs.Certified.{claim_on}
 use Rattle.pool_laws.proofs.Members.{Mem, All-mem}
 use Rattle.pool_laws.proofs.Slots.{same_slot-is, is-same_slot}
-use Rattle.image_parts.specs.Stands.{HasEnd}
+use Rattle.image_parts.specs.InView.{HasEnd}
 use Rattle.image_parts.specs.Walks.{end_said, end_in}
 
 false-of : (b : Bool) → (b ≡ true → ⊥) → b ≡ false

@@ -10,7 +10,7 @@ use Rattle.group_defs.specs.Process.{Process}
 use Rattle.pool_laws.proofs.Tests.{yes-is, is-yes}
 use Rattle.rule_laws.proofs.Numbers.{same-test}
 use Rattle.ending_rules.specs.declared.notifies.Perceived.{Perceived}
-use Rattle.ending_rules.specs.Perceiving.{has_update, with_update, TellsPerceived}
+use Rattle.ending_rules.specs.Perceiving.{has_update, with_update, IsPerceivedOf}
 use Rattle.ending_rules.proofs.Asking.{has-with}
 use Rattle.image_parts.specs.Walks.{with_entry, with_entries}
 
@@ -60,7 +60,7 @@ module _ (number : ℕ) (u : Update) where
 
 -- of a set that was empty
 pub all-reported : (number : ℕ) (set : Perceived) (es : List (ℕ × Update)) → ((u : Update) → has_update set u ≡ false)
-    → (p : Process) → p.pool.view.number ≡ number → p.perceived ≡ es → TellsPerceived (with_entries number set es) p
+    → (p : Process) → p.pool.view.number ≡ number → p.perceived ≡ es → IsPerceivedOf (with_entries number set es) p
 all-reported number set es none p at is u =
     ap (λ n. list_any (is_asked n u) p.perceived) at ∙ ap (list_any (is_asked number u)) is
     ∙ ap (λ b. b || list_any (is_asked number u) es) (sym (none u)) ∙ sym (entries-tell number u set es)

@@ -20,7 +20,7 @@ use Rattle.view_phases.specs.declared.phases.OpenView.{OpenView as Opened}
 use Rattle.view_phases.specs.declared.phases.Phase.{Phase}
 use Rattle.view_phases.specs.declared.phases.Phase.TheVariants.{Observing, OpenView, ClosingView as Closing, DecidedView as Decided, HaltedView as Halted}
 use Rattle.view_phases.specs.Phases.{as_phase, decided, decision_of, decides, IsClosing, IsDecided, IsHalted, IsIn}
-use Rattle.image_parts.specs.Stands.{EndsView, HasEnd, HasHalted, IsDecidedSo}
+use Rattle.image_parts.specs.InView.{EndsView, HasEnd, HasHalted, IsDecidedSo}
 
 false-of : (b : Bool) → (b ≡ true → ⊥) → b ≡ false
 false-of true no_way = absurd (no_way refl)

@@ -1,3 +1,3 @@
 pub mod Walks
-pub mod Stands
+pub mod InView
 pub mod Heard

@@ -2,7 +2,7 @@
 ghost use Rattle.std.specs.Prelude.{◌≡◌, map};
 ghost use Rattle.group_defs.specs.Process.{Process};
 ghost use Rattle.rp_base.specs.Views.{update as update_of};
-ghost use Rattle.ending_rules.specs.Perceiving.{TellsPerceived, with_update};
+ghost use Rattle.ending_rules.specs.Perceiving.{IsPerceivedOf, with_update};
 ghost use Rattle.snapshot_rp.specs.Views.{perceived as plain};
 ghost use Rattle.image_parts.specs.Walks.{with_entry, with_entries};
 
@@ -40,7 +40,7 @@ fn put_each(set: &mut Perceived, number: u16, perceived: &[(u16, Update)])
 
 /// The updates that were asked for in the view of this number, of all that were perceived.
 pub fn asked_in(number: u16, perceived: &[(u16, Update)]) -> Perceived
-    ensures { (p : Process) → p.pool.view.number ≡ number → p.perceived ≡ map plain perceived.now → TellsPerceived result p }
+    ensures { (p : Process) → p.pool.view.number ≡ number → p.perceived ≡ map plain perceived.now → IsPerceivedOf result p }
 {
     let mut set = Perceived::new();
     put_each(&mut set, number, perceived);

@@ -11,7 +11,7 @@ ghost use Rattle.rp_base.specs.Views.{value as value_of};
 ghost use Rattle.stmt_codec.specs.Views.{stmt, report};
 ghost use Rattle.claim_pool.specs.Certificates.{content_of};
 ghost use Rattle.view_phases.specs.Phases.{decided as decided_by, decides, IsIn};
-ghost use Rattle.image_parts.specs.Stands.{EndsView, HasEnd, HasHalted, IsDecidedSo, Stands};
+ghost use Rattle.image_parts.specs.InView.{EndsView, HasEnd, HasHalted, IsDecidedSo, IsInView};
 ghost use Rattle.image_parts.specs.Walks.{end_said, end_in};
 
 use claim_pool::{Certificate, Commit, Pool};
@@ -160,7 +160,7 @@ pub fn phase_of(
     places: u16,
     decision: Option<(u8, Value)>,
 ) -> Option<Phase>
-    ensures is { (p : Process) → Stands p pool.now.pool me ended places (report decision) → IfSome result (λ phase. IsIn phase p) }
+    ensures is { (p : Process) → IsInView p pool.now.pool me ended places (report decision) → IfSome result (λ phase. IsIn phase p) }
     ensures exact { IsTrue (is_some result) ↔ IsDecidedSo pool.now.pool keyed me places (report decision) }
 {
     match decision {

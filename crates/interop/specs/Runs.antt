@@ -3,7 +3,7 @@ use Rattle.std.specs.Prelude.{◌≡◌, ◌↔◌, ◌⊎◌, ℕ, List, Some, 
 use Rattle.std.specs.declared.alloc.Global.{Global}
 use Rattle.rp_base.specs.Causes.{Rose}
 use Rattle.rp_base.specs.Mem.{sink_bytes, sink_calls, source_calls}
-use Rattle.rp_base.specs.Streams.{Says}
+use Rattle.rp_base.specs.Streams.{WritesLine}
 use Rattle.rampart_cli.specs.Top.{AskAny, AskAudit, AskHost}
 use Rattle.interop_runs.specs.declared.outside.Outside.{Outside}
 
@@ -20,7 +20,7 @@ pub record HasRun (words : List (String Global)) (before after : Outside) (statu
   -- 2: exactly where the words are no command; nothing was read, and the line that says so was written
   pub none : (status ≡ 2) ↔ (¬ AskAny words)
   pub unread : status ≡ 2 → after.input ≡ before.input
-  pub reported : status ≡ 2 → Says (codes "stop 2 words\n") (Some (sink_bytes before.output)) (Some (sink_bytes after.output))
+  pub reported : status ≡ 2 → WritesLine (codes "stop 2 words\n") (Some (sink_bytes before.output)) (Some (sink_bytes after.output))
       (write_faults before) (write_faults after)
   -- 3 and 4: only where a read or a write failed
   pub read : status ≡ 3 → Rose (read_faults before) (read_faults after)

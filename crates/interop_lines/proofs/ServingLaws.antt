@@ -4,7 +4,7 @@ use Rattle.std.specs.Prelude.{IsErrOf}
 use Rattle.std.proofs.KnownBytes.{Appends-nil, Appends-trans, Appends-kept, Consumes-nil, Consumes-trans}
 use Rattle.std.proofs.lemmas.List.{append-nil}
 use Rattle.std.specs.Io.KnownBytes.{Appends, Consumes, IsAtEnd, Keeps}
-use Rattle.rp_base.specs.Streams.{AppendsPrefix, Says}
+use Rattle.rp_base.specs.Streams.{AppendsPrefix, WritesLine}
 use Rattle.interop_lines.specs.declared.stops.Stop.{Stop}
 use Rattle.interop_lines.specs.declared.stops.Stop.TheVariants.{NoMemory, Read, Write, Line}
 use Rattle.interop_lines.specs.Stops.{line_of, status_of}
@@ -41,7 +41,7 @@ line_is_not_write stop n e write = apart cc
     apart is = absurd cc
 
 -- where nothing is said, what was written stays
-says_nothing : (a b c : Option (List ℕ)) (bytes : List ℕ) (f f' : ℕ) → Appends a b bytes → Says [] b c f f' → Appends a c bytes
+says_nothing : (a b c : Option (List ℕ)) (bytes : List ℕ) (f f' : ℕ) → Appends a b bytes → WritesLine [] b c f f' → Appends a c bytes
 says_nothing a b c bytes f f' wrote (inl said) = rw (← append-nil bytes) (Appends-trans a b c bytes [] wrote said.0)
 says_nothing a b c bytes f f' wrote (inr said) = rw (← append-nil bytes)
     (Appends-trans a b c bytes [] wrote (subst (Appends b c) (take-nothing said.0.0) said.0.2))
@@ -110,22 +110,22 @@ module _ (R : Runs) where
   }
 
   pub part_stays : (stop : Stop) (before now old mid new : Option (List ℕ)) (f f' : ℕ) → stop ≡ Write → ServedInPart R before now old mid
-      → Says (line_of stop) mid new f f' → ServedInPart R before now old new
+      → WritesLine (line_of stop) mid new f f' → ServedInPart R before now old new
   part_stays stop before now old mid new f f' is part said =
-      let silent : Says [] mid new f f' = subst (λ (s : Stop). Says (line_of s) mid new f f') is said in
+      let silent : WritesLine [] mid new f f' = subst (λ (s : Stop). WritesLine (line_of s) mid new f f') is said in
       (part.0, part.1, (part.2.0, part.2.1, part.2.2, (part.2.3.0, part.2.3.1, says_nothing part.0 mid new _ f f' part.2.3.2 silent)))
 
   pub says_so : (stop is : Stop) (before now old mid new : Option (List ℕ)) (f f' f'' : ℕ) → stop ≡ is
       → (stop ≡ Write) ⊎ SomeServed R before now old mid → (stop ≡ Write) ⊎ (f' ≡ f) → ¬ (is ≡ Write)
-      → Says (line_of stop) mid new f' f'' → ServedAndSays R is before now old new f f''
+      → WritesLine (line_of stop) mid new f' f'' → ServedAndSays R is before now old new f f''
   says_so stop is before now old mid new f f' f'' e (inl write) calm other said = absurd (other (sym e ∙ write))
   says_so stop is before now old mid new f f' f'' e (inr served) (inl write) other said = absurd (other (sym e ∙ write))
   says_so stop is before now old mid new f f' f'' e (inr served) (inr same) other said =
-      (mid, served, subst (λ (n : ℕ). Says (line_of is) mid new n f'') same (subst (λ (s : Stop). Says (line_of s) mid new f' f'') e said))
+      (mid, served, subst (λ (n : ℕ). WritesLine (line_of is) mid new n f'') same (subst (λ (s : Stop). WritesLine (line_of s) mid new f' f'') e said))
 
   pub refused_so : (stop : Stop) (number : ℕ) (before now old mid new : Option (List ℕ)) (f f' f'' : ℕ) → stop ≡ Line number
       → (n : ℕ) × (ahead : List ℕ) × (number ≡ suc n) × HasServed R n ahead before now old mid × HasNoQuestion R ahead now
-      → (stop ≡ Write) ⊎ (f' ≡ f) → Says (line_of stop) mid new f' f'' → Refused R before now old new f f''
+      → (stop ≡ Write) ⊎ (f' ≡ f) → WritesLine (line_of stop) mid new f' f'' → Refused R before now old new f f''
   refused_so stop number before now old mid new f f' f'' e r (inl write) said = absurd (not-write (sym e ∙ write))
     where
       not-write : Line number ≡ Write → ⊥
@@ -137,8 +137,8 @@ module _ (R : Runs) where
         mid,
         r.3,
         r.4,
-        subst (λ (n : ℕ). Says (line_of (Line (suc r.0))) mid new n f'') same
-            (subst (λ (s : Stop). Says (line_of s) mid new f' f'') line said),
+        subst (λ (n : ℕ). WritesLine (line_of (Line (suc r.0))) mid new n f'') same
+            (subst (λ (s : Stop). WritesLine (line_of s) mid new f' f'') line said),
       )
 
   pub rewritten : (n : ℕ) (ahead : List ℕ) (before now old mid new : Option (List ℕ)) → HasServed R n ahead before now old mid → new ≡ mid

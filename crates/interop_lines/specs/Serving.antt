@@ -4,7 +4,7 @@
 use Rattle.std.specs.Prelude.{◌≡◌, ◌⊎◌, ℕ, suc, ◌<◌, ◌≤◌, ◌==◌, false, List, [], ◌++◌, length, Option, codes}
 use Rattle.std.specs.List.{list_any}
 use Rattle.std.specs.Io.KnownBytes.{Appends, Consumes, IsAtEnd}
-use Rattle.rp_base.specs.Streams.{AppendsPrefix, Says}
+use Rattle.rp_base.specs.Streams.{AppendsPrefix, WritesLine}
 use Rattle.interop_lines.specs.Stops.{line_of}
 use Rattle.interop_lines.specs.declared.stops.Stop.{Stop}
 use Rattle.interop_lines.specs.declared.stops.Stop.TheVariants.{Line}
@@ -62,10 +62,10 @@ ServedInPart R before now old new =
 -- some lines were served, and then why the run stops was written: by the counts of the sink's faults before and now
 abbrev pub ServedAndSays : Runs → Stop → Option (List ℕ) → Option (List ℕ) → Option (List ℕ) → Option (List ℕ) → ℕ → ℕ → Type 0
 ServedAndSays R stop before now old new faults faults' =
-    (mid : Option (List ℕ)) × SomeServed R before now old mid × Says (line_of stop) mid new faults faults'
+    (mid : Option (List ℕ)) × SomeServed R before now old mid × WritesLine (line_of stop) mid new faults faults'
 
 -- n lines were served, what follows is no question, and this was written
 abbrev pub Refused : Runs → Option (List ℕ) → Option (List ℕ) → Option (List ℕ) → Option (List ℕ) → ℕ → ℕ → Type 0
 Refused R before now old new faults faults' =
     (n : ℕ) × (ahead : List ℕ) × (mid : Option (List ℕ)) × HasServed R n ahead before now old mid × HasNoQuestion R ahead now
-    × Says (line_of (Line (suc n))) mid new faults faults'
+    × WritesLine (line_of (Line (suc n))) mid new faults faults'

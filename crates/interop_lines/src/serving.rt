@@ -1,7 +1,7 @@
 ghost use Rattle.std.specs.Prelude.{◌≡◌, ◌≢◌, ◌⊎◌, ℕ, suc, List, IfErr, IsErrOf, OnErr, OnOk};
 ghost use Rattle.std.specs.Io.KnownBytes.{Appends, Keeps};
 ghost use Rattle.rp_base.specs.Causes.{Rose};
-ghost use Rattle.rp_base.specs.Streams.{AppendsPrefix, Says};
+ghost use Rattle.rp_base.specs.Streams.{AppendsPrefix, WritesLine};
 ghost use Rattle.interop_lines.specs.Lines.{Answers};
 ghost use Rattle.interop_lines.specs.Stops.{line_of, status_of};
 ghost use Rattle.interop_lines.specs.Serving.{AllServed, HasNoQuestion, HasServed, Refused, ServedAndSays, ServedInPart, SomeServed, ended};
@@ -91,7 +91,7 @@ fn tell<K: Sink>(alloc: Global, output: &mut K, stop: Stop) -> u8
     ensures silent { result ≡ 1 → Keeps (K.written output.old) (K.written output.new) }
     ensures status { result ≢ 1 → result ≡ status_of stop }
     ensures write { stop ≡ Stop.Write → result ≡ 4 }
-    ensures line { result ≢ 1 → Says (line_of stop)
+    ensures line { result ≢ 1 → WritesLine (line_of stop)
         (K.written output.old) (K.written output.new) (K.faults output.old) (K.faults output.new) }
 {
     let Ok(line) = stop.line(alloc) else {

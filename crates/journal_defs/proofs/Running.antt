@@ -5,12 +5,12 @@ use Rattle.std.proofs.lemmas.Bool.{cases_eq}
 use Rattle.std.proofs.lemmas.List.{take_at, drop_at, drop-drop}
 use Rattle.journal_defs.specs.Entries.{Entry, IsEntry}
 use Rattle.journal_defs.specs.Journals.{open_gate, closed_gate, behind_gate, up_to_gate, ReadsAs}
-use Rattle.journal_defs.specs.Crashes.{IsAtRest, IsOpening, AllOpening, Stands, OneImageStands}
+use Rattle.journal_defs.specs.Crashes.{IsAtRest, IsOpening, AllOpening, Survives, OneImageSurvives}
 use Rattle.journal_defs.proofs.Recording.{one_reading}
 use Rattle.journal_defs.proofs.Crashing.{not_open, opened_is_at_rest, each_push}
 
-pub one_image_stands : OneImageStands
-one_image_stands head image es i =
+pub one_image_survives : OneImageSurvives
+one_image_survives head image es i =
     let front = up_to_gate head es in
     record {
       each = i.each;
@@ -69,7 +69,7 @@ written_rests head file new fs r is =
           (drop (k + 1) file) ∙ ap (λ (l : List ℕ). front ++ closed_gate ∷ l) rest;
     }
 
-module _ (head file : List ℕ) (es fs : List Entry) (images : List ℕ → Type 0) (s : Stands head es images) (now : images file)
+module _ (head file : List ℕ) (es fs : List Entry) (images : List ℕ → Type 0) (s : Survives head es images) (now : images file)
     (r : ReadsAs head file fs) where
   -- A closed gate that is not as it is written was torn as it was opened: in every image its entry is staged, and it was not read.
   pub torn_stands : r.gate ≢ closed_gate → (e : Entry) × IsEntry e × (fs ≡ es) × AllOpening head es e images

@@ -2,8 +2,8 @@
 -- Names here (* for this crate alone):
 --   IsStaged*, IsImageOf, IsWithOrWithout
 --   the moments of an append: IsAtRest, IsOpening
---   as a run begins: AllAtRest*, AllOpening, Stands, staged
---   the laws: TornBehindTheGate*, WrittenBehindTheGate*, TornGate*, AtRestIsImage*, OpeningIsImage*, OpenedIsAtRest*, OneImageStands*,
+--   as a run begins: AllAtRest*, AllOpening, Survives, staged
+--   the laws: TornBehindTheGate*, WrittenBehindTheGate*, TornGate*, AtRestIsImage*, OpeningIsImage*, OpenedIsAtRest*, OneImageSurvives*,
 --     ImageReads*
 use Rattle.std.specs.Prelude.{◌≡◌, ◌≢◌, ◌⊎◌, ℕ, ◌+◌, List, [], ◌∷◌, ◌++◌, length, take, drop}
 use Rattle.std.specs.List.{AllByRecursion}
@@ -55,7 +55,7 @@ AllOpening head es e images = (c : List ℕ) → images c → (more : List ℕ) 
 
 -- What a run finds, and leaves: all images at rest with these entries, or all with one more staged after them. Of images of both
 -- kinds at once, one could have an open gate torn over what is no entry.
-pub record Stands (head : List ℕ) (es : List Entry) (images : List ℕ → Type 0) : Type 0 where
+pub record Survives (head : List ℕ) (es : List Entry) (images : List ℕ → Type 0) : Type 0 where
   pub each : AllByRecursion IsEntry es
   pub all : AllAtRest head es images ⊎ ((e : Entry) × IsEntry e × AllOpening head es e images)
 
@@ -97,8 +97,8 @@ OpenedIsAtRest = (head : List ℕ) (es : List Entry) (e : Entry) (more : List �
     → IsAtRest head (es ++ e ∷ []) (up_to_gate head es ++ open_gate ∷ (behind_gate e ++ closed_gate ∷ more))
 
 -- one image that is well formed is what a run may find: so is what a crash leaves of a run
-abbrev pub OneImageStands : Type 0
-OneImageStands = (head image : List ℕ) (es : List Entry) → IsImageOf head image es → Stands head es (λ c. c ≡ image)
+abbrev pub OneImageSurvives : Type 0
+OneImageSurvives = (head image : List ℕ) (es : List Entry) → IsImageOf head image es → Survives head es (λ c. c ≡ image)
 
 -- a well formed image reads as its entries
 abbrev pub ImageReads : Type 0

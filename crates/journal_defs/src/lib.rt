@@ -4,7 +4,7 @@
 ghost use Rattle.journal_defs.specs.Entries.{EntryIsSpelled, EntryIsRead};
 ghost use Rattle.journal_defs.specs.Journals.{RecordIsSpelled, RecordIsRead, OneReading, EntryGoesOn, ClosedGateEnds, BrokenGateBreaks};
 ghost use Rattle.journal_defs.specs.Journals.{EntryIsThere, GateIsThere, OneEntry, MarkedAgain};
-ghost use Rattle.journal_defs.specs.Crashes.{TornBehindTheGate, WrittenBehindTheGate, TornGate, AtRestIsImage, OpeningIsImage, OpenedIsAtRest, OneImageStands, ImageReads};
+ghost use Rattle.journal_defs.specs.Crashes.{TornBehindTheGate, WrittenBehindTheGate, TornGate, AtRestIsImage, OpeningIsImage, OpenedIsAtRest, OneImageSurvives, ImageReads};
 
 /// The kind of a journal, which its magic says. A place holds one message in a journal of the first kind, and up to 16 in
 /// one of the second.
@@ -48,8 +48,8 @@ pub fn opened_is_at_rest()
 {}
 
 /// What a crash leaves of a run is what the next run may find.
-pub fn one_image_stands()
-    ensures { OneImageStands }
+pub fn one_image_survives()
+    ensures { OneImageSurvives }
 {}
 
 /// A well formed image reads as its entries.

@@ -6,7 +6,7 @@ use Rattle.std.proofs.lemmas.List.{drop_at}
 use Rattle.rp_base.specs.Disks.{Torn, Follows, Writes, Only}
 use Rattle.journal_defs.specs.Entries.{Entry, IsEntry}
 use Rattle.journal_defs.specs.Journals.{up_to_gate, closed_gate}
-use Rattle.journal_defs.specs.Crashes.{IsOpening, IsWithOrWithout, AllOpening, Stands}
+use Rattle.journal_defs.specs.Crashes.{IsOpening, IsWithOrWithout, AllOpening, Survives}
 use Rattle.journal_defs.proofs.Crashing as laws
 use Rattle.journal_defs.proofs.Running as running
 use Rattle.journal_disk.specs.Disks.{HasRest, HasStaged, EndsAt, EndsClosed, HasLength, BeginsAt, LeavesStaged}
@@ -67,7 +67,7 @@ module _ (seen : Option (List ℕ)) (head : List ℕ) (fs : List Entry) (gate : 
 
 -- a gate that is not closed as it is written was torn, and the reading ended before the entry that is staged behind it
 pub torn_there : (seen : Option (List ℕ)) (images : List ℕ → Type 0) (head : List ℕ) (es fs : List Entry) (gate b : ℕ)
-    → Stands head es images → IfSome seen images → (ends : EndsAt seen head fs gate) → IfSome seen (λ file. BeginsAt file gate (b ∷ []))
+    → Survives head es images → IfSome seen images → (ends : EndsAt seen head fs gate) → IfSome seen (λ file. BeginsAt file gate (b ∷ []))
     → b ≢ closed_gate
     → (e : Entry) × IsEntry e × (fs ≡ es) × AllOpening head es e images
 torn_there seen images head es fs gate b s image ends there torn =
@@ -97,7 +97,7 @@ pub staged_left : (head : List ℕ) (es : List Entry) (e : Entry) (images : List
 staged_left head es e images all c image = ⊎_elim (λ without. inl without) (λ with. inr (e, all, with)) image
 
 -- what a run finds is left
-pub found_images : (head : List ℕ) (es : List Entry) (images : List ℕ → Type 0) → Stands head es images → (c : List ℕ) → images c
+pub found_images : (head : List ℕ) (es : List Entry) (images : List ℕ → Type 0) → Survives head es images → (c : List ℕ) → images c
     → LeavesStaged head es images c
 found_images head es images s c now =
     ⊎_elim (λ rest. inl (laws.at_rest_is_image head es c s.each (rest c now)))
@@ -105,7 +105,7 @@ found_images head es images s c now =
     s.all
 
 pub fewer_stand : (head : List ℕ) (es : List Entry) (images fewer : List ℕ → Type 0) → ((c : List ℕ) → fewer c → images c)
-    → Stands head es images → Stands head es fewer
+    → Survives head es images → Survives head es fewer
 fewer_stand head es images fewer less s = record {
   each = s.each;
   all = ⊎_elim (λ rest. inl (λ c now. rest c (less c now))) (λ staged. inr (staged.0, staged.1, λ c now. staged.2 c (less c now))) s.all;

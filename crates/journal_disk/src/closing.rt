@@ -4,7 +4,7 @@ ghost use Rattle.rp_base.specs.Causes.{HasCause};
 ghost use Rattle.rp_base.specs.Disks.{NoNewImage};
 ghost use Rattle.journal_defs.specs.Entries.{Entry, IsEntry};
 ghost use Rattle.journal_defs.specs.Journals.{up_to_gate};
-ghost use Rattle.journal_defs.specs.Crashes.{IsWithOrWithout, AllOpening, Stands};
+ghost use Rattle.journal_defs.specs.Crashes.{IsWithOrWithout, AllOpening, Survives};
 ghost use Rattle.journal_disk.specs.Disks.{HasRest, EndsAt, EndsClosed, HasLength, LeavesOnly, LeavesStaged, StaysUntold};
 
 use crate::pieces::byte_at;
@@ -22,7 +22,7 @@ pub fn close_gate<D: Disk>(disk: &mut D, gate: u64) -> Result<(), Failed>
         → HasRest (D.seen disk.new) (D.may_leave disk.new) head fs gate) }
 
     // A crash at any moment leaves a well formed journal with the entries that the run found, or with the staged one too.
-    ensures any_moment { (head : List ℕ) (es fs : List Entry) → Stands head es (D.may_leave disk.old)
+    ensures any_moment { (head : List ℕ) (es fs : List Entry) → Survives head es (D.may_leave disk.old)
         → EndsAt (D.seen disk.old) head fs gate
         → LeavesOnly D.moment D.left_since disk.old disk.new (LeavesStaged head es (D.may_leave disk.old)) }
 
@@ -31,8 +31,8 @@ pub fn close_gate<D: Disk>(disk: &mut D, gate: u64) -> Result<(), Failed>
         → LeavesOnly D.moment D.left_since disk.old disk.new (D.may_leave disk.old) }
 
     // What the next run may find.
-    ensures stands { (head : List ℕ) (es fs : List Entry) → Stands head es (D.may_leave disk.old) → EndsAt (D.seen disk.old) head fs gate
-        → Stands head es (D.may_leave disk.new) }
+    ensures stands { (head : List ℕ) (es fs : List Entry) → Survives head es (D.may_leave disk.old) → EndsAt (D.seen disk.old) head fs gate
+        → Survives head es (D.may_leave disk.new) }
     ensures length { (len : ℕ) → HasLength (D.seen disk.old) len → OnOk result (HasLength (D.seen disk.new) len) }
     ensures untold { OnOk result (StaysUntold (D.seen disk.old) (D.seen disk.new)) }
     ensures cause { HasCause (D.faults disk.old) (D.faults disk.new) result }

@@ -1,7 +1,7 @@
 ghost use Rattle.std.specs.Prelude.{◌≡◌, max, ◌+◌, ◌^◌, ◌<◌, ◌≤◌, ◌++◌, ◌∷◌, [], List, ℕ, length, OnOk, IfSome};
 ghost use Rattle.rp_base.specs.Causes.{HasCause};
 ghost use Rattle.journal_defs.specs.Entries.{Entry, IsEntry};
-ghost use Rattle.journal_defs.specs.Crashes.{IsImageOf, IsWithOrWithout, AllAtRest, AllOpening, Stands, staged};
+ghost use Rattle.journal_defs.specs.Crashes.{IsImageOf, IsWithOrWithout, AllAtRest, AllOpening, Survives, staged};
 ghost use Rattle.journal_disk.specs.Disks.{HasRest, HasStaged, HasLength, LeavesOnly, StagesThenOpens, StaysUntold};
 
 use rp_base::{Disk, Failed};
@@ -33,7 +33,7 @@ pub fn append<D: Disk>(disk: &mut D, gate: u64, bytes: &[u8]) -> Result<(), Fail
     // What the next run may find.
     ensures stands { (head : List ℕ) (es : List Entry) (e : Entry) → HasRest (D.seen disk.old) (D.may_leave disk.old) head es gate
         → IsEntry e → bytes.now ≡ staged e
-        → Stands head es (D.may_leave disk.new) }
+        → Survives head es (D.may_leave disk.new) }
     ensures length { (len : ℕ) → HasLength (D.seen disk.old) len
         → OnOk result (HasLength (D.seen disk.new) (max len (gate + 1 + length bytes.now))) }
     ensures untold { OnOk result (StaysUntold (D.seen disk.old) (D.seen disk.new)) }

@@ -1,7 +1,7 @@
 ghost use Rattle.std.specs.Prelude.{◌≡◌, ◌↔◌, max, ◌+◌, ◌-◌, ◌^◌, ◌<◌, ◌≤◌, ◌++◌, ◌∷◌, [], List, ℕ, length, IfOk, OnOk, OnErr, IfSome, IsTrue};
 ghost use Rattle.journal_defs.specs.Entries.{Entry, IsEntry, entry_bytes};
 ghost use Rattle.journal_defs.specs.Journals.{IsClosedAt};
-ghost use Rattle.journal_defs.specs.Crashes.{IsWithOrWithout, Stands, staged};
+ghost use Rattle.journal_defs.specs.Crashes.{IsWithOrWithout, Survives, staged};
 ghost use Rattle.journal_disk.specs.Disks.{HasRest, HasLength, EndsAt, EndsClosed, LeavesOnly, LeavesStaged, StagesThenOpens, StaysUntold};
 ghost use Rattle.journal_rp.specs.Stages.{gate_of, len_of, version_of};
 ghost use Rattle.journal_rp.specs.Turns.{outcome_of, process_of, staged_of};
@@ -32,7 +32,7 @@ impl Journal<Reading> {
             → HasRest (D.seen disk.new) (D.may_leave disk.new) head fs (gate_of self)) }
 
         // A crash at any moment leaves a well formed journal with the entries that the run found, or with the staged one too.
-        ensures any_moment { (head : List ℕ) (es fs : List Entry) → Stands head es (D.may_leave disk.old)
+        ensures any_moment { (head : List ℕ) (es fs : List Entry) → Survives head es (D.may_leave disk.old)
             → EndsAt (D.seen disk.old) head fs (gate_of self)
             → LeavesOnly D.moment D.left_since disk.old disk.new (LeavesStaged head es (D.may_leave disk.old)) }
 
@@ -41,9 +41,9 @@ impl Journal<Reading> {
             → LeavesOnly D.moment D.left_since disk.old disk.new (D.may_leave disk.old) }
 
         // What the next run may find.
-        ensures stands { (head : List ℕ) (es fs : List Entry) → Stands head es (D.may_leave disk.old)
+        ensures stands { (head : List ℕ) (es fs : List Entry) → Survives head es (D.may_leave disk.old)
             → EndsAt (D.seen disk.old) head fs (gate_of self)
-            → Stands head es (D.may_leave disk.new) }
+            → Survives head es (D.may_leave disk.new) }
         ensures place { IfOk result (λ j. (gate_of j ≡ gate_of self) × (version_of j ≡ version_of self)) }
         ensures length { IfOk result (λ j. HasLength (D.seen disk.new) (len_of j)) }
         ensures untold { OnOk result (StaysUntold (D.seen disk.old) (D.seen disk.new)) }
@@ -97,7 +97,7 @@ impl Journal<Writing> {
         // What the next run may find.
         ensures stands { (head : List ℕ) (es : List Entry) (e : Entry)
             → HasRest (D.seen disk.old) (D.may_leave disk.old) head es (gate_of self) → IsEntry e → staged_of turn ≡ staged e
-            → Stands head es (D.may_leave disk.new) }
+            → Survives head es (D.may_leave disk.new) }
 
         // The turn that was handed in is the one that is given back.
         ensures outcome { IfOk result (λ x. outcome_of x.1 ≡ outcome_of turn) }

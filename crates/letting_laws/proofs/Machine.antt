@@ -5,7 +5,7 @@ use Rattle.std.specs.List.{AllZip}
 use Rattle.std.proofs.lemmas.List.{append-nil, append_assoc}
 use Rattle.node_defs.specs.Casts.{Cast}
 use Rattle.node_defs.specs.Lines.{note_line, fault_line}
-use Rattle.node_defs.specs.Nodes.{Leaving, Sends, Tells, Call, leaving_call, Answer, Done, Failed, Said, Node, Snapper, call_of, after_leaving, answered, run, calls}
+use Rattle.node_defs.specs.Nodes.{Leaving, Sends, Notes, Call, leaving_call, Answer, Done, Failed, Said, Node, Snapper, call_of, after_leaving, answered, run, calls}
 use Rattle.node_traces.specs.Service.{Asked, asking, hears, asked_by}
 use Rattle.letting_laws.specs.Letting.{Fits, asked, reported_by, failed_by, EachLetsOut}
 
@@ -38,7 +38,7 @@ answered-so c snap n ls (Sends p q frame) Failed fits = λ i. record n {
   text = sym (append-nil n.text) i;
   late = n.late ++ fault_line p;
 }
-answered-so c snap n ls (Tells p note) (Said text sends) fits = λ i. record n {
+answered-so c snap n ls (Notes p note) (Said text sends) fits = λ i. record n {
   kept = append-nil n.kept i;
   gate = add-zero n.gate i;
   stopped = None;

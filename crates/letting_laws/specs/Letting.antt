@@ -9,7 +9,7 @@ use Rattle.std.specs.List.{AllZip}
 use Rattle.group_defs.specs.Process.{Process}
 use Rattle.node_defs.specs.Lines.{NoMemory, note_line, fault_line}
 use Rattle.node_defs.specs.Casts.{Cast}
-use Rattle.node_defs.specs.Nodes.{Leaving, Sends, Tells, Call, leaving_call, Answer, Done, Failed, Said, Node, Task, Snapper, post_tasks, run, calls}
+use Rattle.node_defs.specs.Nodes.{Leaving, Sends, Notes, Call, leaving_call, Answer, Done, Failed, Said, Node, Task, Snapper, post_tasks, run, calls}
 use Rattle.node_traces.specs.Outside.{LinkSeen, LinkAnswered}
 use Rattle.node_traces.specs.Service.{Asked, asked_by, hears}
 use Rattle.node_traces.specs.Goes.{Outside, Goes}
@@ -20,7 +20,7 @@ use Rattle.node_traces.specs.Goes.{Outside, Goes}
 abbrev pub Fits : Leaving → Answer → Type 0
 Fits (Sends p q frame) Done = Unit {0}
 Fits (Sends p q frame) Failed = Unit {0}
-Fits (Tells p note) (Said text sends) = Unit {0}
+Fits (Notes p note) (Said text sends) = Unit {0}
 Fits _ _ = ⊥
 
 -- what is asked of the outside, each with its answer
@@ -29,7 +29,7 @@ asked c ls answers = zip (map (leaving_call c) ls) answers
 
 -- the note's line, and after it what the service said
 abbrev pub reported_by : Leaving × Answer → List ℕ
-reported_by (Tells p note, Said text sends) = note_line p note ++ text
+reported_by (Notes p note, Said text sends) = note_line p note ++ text
 reported_by _ = []
 
 -- the line of a send that failed

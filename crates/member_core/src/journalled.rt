@@ -29,7 +29,7 @@ pub(crate) struct Journalled<'a> {
 impl<'a> Journalled<'a> {
     ghost use Rattle.member_core.specs.Journalled.{HandsOut, used_of};
 
-    /// The signatures, of a process that made `before` others and will have made `total` with them.
+    /// The signatures of an entry. The process made `before` others before them, and has made `total` with them.
     pub(crate) fn new(signatures: EntrySignatures<'a>, before: u32, total: u32) -> Journalled<'a>
         requires { total ≡ before + length (signatures_left signatures) }
         ensures hands { HandsOut result (signatures_left signatures.entry) }

@@ -16,7 +16,7 @@ use Rattle.group_defs.specs.Hearing.{Verdict, Old, Early, Stranger, OutOfWindow,
 use Rattle.rule_laws.specs.Placing.{counts_in}
 use Rattle.own_place.specs.Words.{report, slot_key, same_slot_key}
 use Rattle.own_place.specs.declared.own.Own.{Own}
-use Rattle.own_place.specs.Owns.{Tells}
+use Rattle.own_place.specs.Owns.{IsOwnOf}
 use Rattle.own_place.specs.Signed.{has_slot}
 use Rattle.pool_laws.proofs.Members.{All-mem, Mem}
 use Rattle.pool_laws.proofs.Tests.{yes-is}
@@ -26,7 +26,7 @@ use Rattle.member_laws.specs.Telling.{messages_of, HearingTells, DeliveredIsCoun
 pub hearing_tells : HearingTells
 hearing_tells s p h own c is = go (verdict s p c)
   where
-    go : (v : Verdict) → Tells s (with_verdict v p c) (with_verdict v p c).pool own
+    go : (v : Verdict) → IsOwnOf s (with_verdict v p c) (with_verdict v p c).pool own
     go Heard = record {
       pool = refl;
       number = is.number;

@@ -9,7 +9,7 @@ use Rattle.group_defs.specs.Hearing.{hear}
 use Rattle.group_defs.specs.Settle.{delivery, install}
 use Rattle.rule_laws.specs.Placing.{counts_in}
 use Rattle.own_place.specs.declared.own.Own.{Own}
-use Rattle.own_place.specs.Owns.{Tells}
+use Rattle.own_place.specs.Owns.{IsOwnOf}
 use Rattle.member_laws.specs.Lawful.{IsLawful}
 
 -- the messages of these deliveries
@@ -18,7 +18,7 @@ messages_of ds = map (λ d. d.message) ds
 
 -- hearing a claim changes nothing of the own place
 abbrev pub HearingTells : Type 0
-HearingTells = (s : Setting) (p : Process) (h : Pool) (own : Own) (c : Claim) → Tells s p h own → Tells s (hear s p c) (hear s p c).pool own
+HearingTells = (s : Setting) (p : Process) (h : Pool) (own : Own) (c : Claim) → IsOwnOf s p h own → IsOwnOf s (hear s p c) (hear s p c).pool own
 
 -- how many of each member's messages were delivered, by their list
 abbrev pub DeliveredIsCounted : Type 0
@@ -33,7 +33,7 @@ pub record OnePlaceMore (v : View) (b : Batch) (delivered : List Delivered) (own
 abbrev pub DeliveringTells : Type 0
 DeliveringTells = (s : Setting) (p : Process) (h : Pool) (own own' : Own) (b : Batch) (ds : List Delivered) → 1 ≤ length b
     → delivery p.pool (places_in p.delivered) b ≡ Some ds
-    → OnePlaceMore p.pool.view b p.delivered own own' → Tells s p h own → Tells s (record p { delivered = p.delivered ++ ds }) h own'
+    → OnePlaceMore p.pool.view b p.delivered own own' → IsOwnOf s p h own → IsOwnOf s (record p { delivered = p.delivered ++ ds }) h own'
 
 -- in a view that begins nothing is signed or delivered, and the own messages that were delivered are all of earlier views
 pub record Begins (v : View) (own own' : Own) (delivered : ℕ) : Type 0 where
@@ -54,4 +54,4 @@ pub record Begins (v : View) (own own' : Own) (delivered : ℕ) : Type 0 where
 abbrev pub InstallingTells : Type 0
 InstallingTells = (s : Setting) (p : Process) (h : Pool) (own own' : Own) (d : ℕ × Value) → IsLawful p
     → Begins (next_view p.pool.view d.1.update) own own' (delivered_from p.me p.delivered)
-    → Tells s p h own → Tells s (install d p) (record { view = next_view p.pool.view d.1.update; heard = [] }) own'
+    → IsOwnOf s p h own → IsOwnOf s (install d p) (record { view = next_view p.pool.view d.1.update; heard = [] }) own'

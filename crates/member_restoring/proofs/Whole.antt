@@ -16,7 +16,7 @@ use Rattle.group_defs.specs.Hearing.{is_strange, is_valid}
 use Rattle.group_defs.specs.Laws.{IsOfView}
 use Rattle.image_defs.specs.Images.{Image, LeftView, lefts_from, other_lists, previous_from, process_of}
 use Rattle.image_defs.specs.Kept.{AreLeft, IsLeft, IsKept}
-use Rattle.restored_present.specs.Members.{AreFew, IsBounded, Keeps, Tells}
+use Rattle.restored_present.specs.Members.{AreFew, IsBounded, Keeps, IsOwnOf}
 use Rattle.pool_laws.proofs.Members.{Mem, mem-All, All-mem, mem-list_any}
 use Rattle.pool_laws.proofs.Places.{all-pairs, pairs-all, slice_get-mem}
 use Rattle.pool_laws.proofs.Tests.{and-first, none-is, some-same}
@@ -194,7 +194,7 @@ module _ (s : Setting) (batch_limit : ℕ) (i : Image) (spelled : IsImage Two i)
     halted_beyond = halted-beyond;
     ranged = ranged genesis;
     limit = has.limit;
-    place = subst (λ h. Tells s p h st.own) has.pool has.place;
+    place = subst (λ h. IsOwnOf s p h st.own) has.pool has.place;
     phase = has.phase;
     asked = has.asked;
     said = sym has.said;

@@ -5,15 +5,15 @@ use Rattle.group_defs.specs.Process.{Setting, Process, deliveries_of, views_of}
 use Rattle.group_defs.specs.Accounts.{account_of}
 use Rattle.image_defs.specs.Images.{Image}
 use Rattle.restored_present.specs.Left.{HasPast}
-use Rattle.restored_present.specs.Members.{IsIn, ProcessState, Tells, TellsPerceived, account, claims_of, signed_here}
+use Rattle.restored_present.specs.Members.{IsIn, ProcessState, IsOwnOf, IsPerceivedOf, account, claims_of, signed_here}
 
 -- what the state keeps, part by part
 pub record HasParts (s : Setting) (i : Image) (p : Process) (st : ProcessState) : Type 0 where
   pub limit : p.batch_limit ≡ st.batch_limit
   pub pool : p.pool ≡ st.pool.pool
-  pub place : Tells s p p.pool st.own
+  pub place : IsOwnOf s p p.pool st.own
   pub phase : IsIn st.phase p
-  pub asked : TellsPerceived st.perceived p
+  pub asked : IsPerceivedOf st.perceived p
   pub said : st.said.claims ≡ signed_here p
   pub said_from : st.said_from ≡ length st.said.claims
   pub said_before : claims_of st.said_before.items ≡ p.signed

@@ -27,7 +27,7 @@ use Rattle.pool_laws.proofs.Members.{All-mem, mem-All}
 use Rattle.pool_laws.proofs.Tests.{and-first, none-is}
 use Rattle.member_state.proofs.Laws.{certificate-ranged}
 use Rattle.claim_index.specs.Kept.{empty_pool}
-use Rattle.own_place.specs.Owns.{Tells}
+use Rattle.own_place.specs.Owns.{IsOwnOf}
 use Rattle.member_state.specs.Parts.{has_update}
 use Rattle.member_state.specs.Parts.{all_signed}
 use Rattle.member_state.specs.Below.{IsIn}
@@ -102,7 +102,7 @@ module _ (s : Setting) (p : Process) (d : ℕ × Value) (old new : ProcessState)
   fresh : new.pool.pool ≡ record { view = next_view p.pool.view d.1.update; heard = [] }
   fresh = begun.pool ∙ ap empty_pool is
 
-  tells : Tells s q (record { view = next_view p.pool.view d.1.update; heard = [] }) new.own
+  tells : IsOwnOf s q (record { view = next_view p.pool.view d.1.update; heard = [] }) new.own
   tells = installing_tells s p old.pool.pool old.own new.own d ok.lawful begins ok.place
 
   more : earlier q ≡ earlier p + delivered_from p.me p.delivered
@@ -163,7 +163,7 @@ module _ (s : Setting) (p : Process) (d : ℕ × Value) (old new : ProcessState)
       previous_ranged = λ h e. subst (λ (g : defs.Pool). All IsClaim g.heard) (same-pool p.pool h e) ok.lawful.pool.in_range;
     };
     limit = ok.limit ∙ sym begun.limit;
-    place = subst (λ h. Tells s q h new.own) (sym fresh) tells;
+    place = subst (λ h. IsOwnOf s q h new.own) (sym fresh) tells;
     phase = begun.phase q (sym is) (tells.number) leaving.runs refl (tells.signed.end ∙ begins.end);
     asked = λ u. none-perceived p.pool.view.number p u ok.asked_for ∙ sym (begun.asked u);
     said = none-signed p.pool.view.number p.signed ok.lawful.past ∙ sym begun.said;

@@ -7,7 +7,7 @@ use Rattle.group_defs.specs.Process.{Setting, Pool, Process, places_in}
 use Rattle.group_defs.specs.Settle.{decide, decided_by, Observing, OpenView, ClosingView}
 use Rattle.pool_laws.proofs.Tests.{option_or-is}
 use Rattle.own_place.specs.declared.own.Own.{Own}
-use Rattle.own_place.specs.Owns.{Tells}
+use Rattle.own_place.specs.Owns.{IsOwnOf}
 use Rattle.member_state.specs.Parts.{Archived, Keeps}
 use Rattle.member_state.specs.Below.{Phase, IsIn, decided, decision_of}
 use Rattle.member_state.specs.Phases as phases
@@ -49,7 +49,7 @@ module _ (p : Process) (decision : Option (ℕ × Value)) (stops : Bool) where
   bounded-so : IsBounded p → IsBounded changed
   bounded-so ok = record { now = ok.now; before = ok.before; backlog = ok.backlog }
 
-  tells-so : (s : Setting) (h : Pool) (own : Own) → Tells s p h own → Tells s changed h own
+  tells-so : (s : Setting) (h : Pool) (own : Own) → IsOwnOf s p h own → IsOwnOf s changed h own
   tells-so s h own is = record {
     pool = is.pool;
     number = is.number;

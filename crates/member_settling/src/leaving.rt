@@ -15,7 +15,7 @@ ghost use Rattle.rp_base.specs.Views as base;
 ghost use Rattle.rp_base.specs.Views.{value};
 ghost use Rattle.accounts.specs.Views.{account as reported, delivery};
 ghost use Rattle.claim_index.specs.Kept.{empty_pool};
-ghost use Rattle.own_place.specs.Owns.{Tells};
+ghost use Rattle.own_place.specs.Owns.{IsOwnOf};
 ghost use Rattle.member_state.specs.Parts.{has_update};
 ghost use Rattle.member_laws.specs.Telling.{Begins};
 ghost use Rattle.member_state.specs.Parts.{all_signed, IsRanged};
@@ -39,7 +39,7 @@ use view_table::{View, next};
 
 // How many places count as delivered: a member's own, and the cut of one who is no member.
 fn counted(pool: &Pool, own: &Own, decided: &DecidedView) -> u16
-    ensures { (s : Setting) (p : Process) → Tells s p pool.now.pool own.now → result ≡ counts p decided.now }
+    ensures { (s : Setting) (p : Process) → IsOwnOf s p pool.now.pool own.now → result ≡ counts p decided.now }
 {
     if pool.view().is_member(own.me) {
         own.delivered

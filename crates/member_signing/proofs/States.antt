@@ -11,7 +11,7 @@ use Rattle.group_defs.specs.Due.{may_sign}
 use Rattle.group_defs.specs.Signing.{Signer, own_claim, signs}
 use Rattle.rule_laws.proofs.Signable.{may-parts}
 use Rattle.own_place.specs.declared.own.Own.{Own}
-use Rattle.own_place.specs.Owns.{Tells}
+use Rattle.own_place.specs.Owns.{IsOwnOf}
 use Rattle.own_place.specs.Signed.{Signed}
 use Rattle.claim_index.specs.Keys.{slot_key, same_slot_key}
 use Rattle.std.specs.List.{list_any}
@@ -62,7 +62,7 @@ signed-more p c old new is puts = record {
 -- so the state is that of the process which has signed it
 pub signed-state : (s : Setting) (signer : Signer) (p : Process) (st : Statement) (old new : ProcessState) → IsStateOf s p old
     → may_sign s p st ≡ true → p.decision ≡ None → IsClaim (own_claim s signer p st)
-    → Puts p (own_claim s signer p st) old new → Tells s (signs s signer p st) new.pool.pool new.own → IsIn new.phase (signs s signer p st)
+    → Puts p (own_claim s signer p st) old new → IsOwnOf s (signs s signer p st) new.pool.pool new.own → IsIn new.phase (signs s signer p st)
     → IsStateOf s (signs s signer p st) new
 signed-state s signer p st old new is may undecided range puts tells phase = record {
   lawful = signing_is_lawful s signer p st may range is.lawful;
@@ -90,8 +90,8 @@ signed-state s signer p st old new is may undecided range puts tells phase = rec
 -- ---- the own place with more room
 
 -- whose place it is does not depend on the room that is left
-pub tells-roomier : (s : Setting) (p : Process) (h : Pool) (own : Own) (signed : Signed) → signed.slots ≡ own.signed.slots → Tells s p h own
-    → Tells s p h (record own { signed = signed })
+pub tells-roomier : (s : Setting) (p : Process) (h : Pool) (own : Own) (signed : Signed) → signed.slots ≡ own.signed.slots → IsOwnOf s p h own
+    → IsOwnOf s p h (record own { signed = signed })
 tells-roomier s p h own signed same tells = record {
   pool = tells.pool;
   number = tells.number;

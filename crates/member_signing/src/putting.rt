@@ -9,7 +9,7 @@ ghost use Rattle.group_defs.specs.Due.{may_sign};
 ghost use Rattle.group_defs.specs.Values as values;
 ghost use Rattle.group_defs.specs.Signing.{Signer, own_claim, signs};
 ghost use Rattle.stmt_codec.specs.Views.{stmt, signed, claim as claim_of};
-ghost use Rattle.own_place.specs.Owns.{Tells};
+ghost use Rattle.own_place.specs.Owns.{IsOwnOf};
 ghost use Rattle.own_place.specs.Signed.{has_slot};
 ghost use Rattle.member_state.specs.Below.{IsIn};
 ghost use Rattle.member_state.specs.Marks.{Stays};
@@ -62,9 +62,9 @@ fn note(own: &mut Own, view: &View, statement: &Statement<'_>) -> Result<(), NoM
     requires range { IsStatement (stmt statement.now) }
     requires members { length own.old.orders.items ≡ length view.now.members }
     requires fresh { has_slot own.old.signed (slot_of (stmt statement.now)) ≡ false }
-    ensures noted { (s : defs.Setting) (signer : Signer) (p : defs.Process) (g h : defs.Pool) → Tells s p g own.old → g.view ≡ view.now
+    ensures noted { (s : defs.Setting) (signer : Signer) (p : defs.Process) (g h : defs.Pool) → IsOwnOf s p g own.old → g.view ≡ view.now
         → IsTrue (may_sign s p (stmt statement.now)) → (signs s signer p (stmt statement.now)).pool ≡ h
-        → OnOk result (Tells s (signs s signer p (stmt statement.now)) h own.new) }
+        → OnOk result (IsOwnOf s (signs s signer p (stmt statement.now)) h own.new) }
     ensures marked { own.new.signed.marked ≡ own.old.signed.marked }
 {
     own.signed.reserve(1)?;

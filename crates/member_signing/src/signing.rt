@@ -8,7 +8,7 @@ ghost use Rattle.group_defs.specs.Due.{least_due};
 ghost use Rattle.group_defs.specs.Signing as signing;
 ghost use Rattle.stmt_codec.specs.Views.{signed as signed_by};
 ghost use Rattle.member_state.specs.Below.{IsIn};
-ghost use Rattle.due_statements.specs.Standings.{kind_of, Stands, IsSeated};
+ghost use Rattle.due_statements.specs.AskedOf.{kind_of, IsAskedOf, IsSeated};
 ghost use Rattle.member_state.specs.Marks.{Stays};
 ghost use Rattle.member_state.specs.States.{IsStateOf, IsReal};
 ghost use Rattle.member_signing.specs.Signed.{IsUndecided, IsOwed, IsSigned};
@@ -31,7 +31,7 @@ fn is_decided(phase: &Phase) -> bool
 
 // The process, as what is due is asked of it.
 fn standing(state: &ProcessState) -> Standing<'_>
-    ensures stands { (s : defs.Setting) (p : defs.Process) → IsStateOf s p state.now → Stands s p result }
+    ensures stands { (s : defs.Setting) (p : defs.Process) → IsStateOf s p state.now → IsAskedOf s p result }
     ensures seated { IsReal state.now → IsSeated result }
 {
     Standing {

@@ -2,10 +2,10 @@
 use Rattle.std.proofs.Common.{◌≡◌, ◌∙◌, ◌≤◌, ◌++◌, length, drop, sym, ap, subst, Option, Some, None}
 use Rattle.std.specs.Option.{MatchOption}
 use Rattle.group_defs.specs.Process.{Setting, Pool, Process}
-use Rattle.own_place.specs.Owns.{Tells}
+use Rattle.own_place.specs.Owns.{IsOwnOf}
 use Rattle.own_place.specs.Marks.{IsSamePlace}
 use Rattle.own_place.proofs.Marked.{same_tells}
-use Rattle.ending_rules.specs.Perceiving.{TellsPerceived}
+use Rattle.ending_rules.specs.Perceiving.{IsPerceivedOf}
 use Rattle.view_phases.specs.declared.phases.Phase.{Phase}
 use Rattle.view_phases.specs.Phases.{IsIn}
 use Rattle.accounts.specs.Views.{account}
@@ -43,9 +43,9 @@ same_state s p was now same is = record {
   halted_beyond = is.halted_beyond;
   ranged = is.ranged;
   limit = is.limit ∙ sym same.limit;
-  place = subst (λ (h : Pool). Tells s p h now.own) (sym same.pool) (same_tells was.own now.own same.own s p was.pool.pool is.place);
+  place = subst (λ (h : Pool). IsOwnOf s p h now.own) (sym same.pool) (same_tells was.own now.own same.own s p was.pool.pool is.place);
   phase = subst (λ (phase : Phase). IsIn phase p) (sym same.phase) is.phase;
-  asked = subst (λ a. TellsPerceived a p) (sym same.asked) is.asked;
+  asked = subst (λ a. IsPerceivedOf a p) (sym same.asked) is.asked;
   said = is.said ∙ sym same.said;
   signed = record {
     few = subst (λ cs. now.said_from ≤ length cs) (sym same.said)

@@ -10,8 +10,8 @@ use Rattle.message_defs.specs.Spelling.{IsClaim, IsViewNumber}
 use Rattle.group_defs.specs.Process.{Setting, Pool, Process, Left, start}
 use Rattle.group_defs.specs.Accounts.{account_of}
 use Rattle.own_place.specs.Words.{empty_pool}
-use Rattle.own_place.specs.Owns.{Tells}
-use Rattle.ending_rules.specs.Perceiving.{TellsPerceived}
+use Rattle.own_place.specs.Owns.{IsOwnOf}
+use Rattle.ending_rules.specs.Perceiving.{IsPerceivedOf}
 use Rattle.view_phases.specs.Phases.{IsIn}
 use Rattle.accounts.specs.Views.{account}
 use Rattle.own_moves.specs.Lawful.{IsLawful}
@@ -24,9 +24,9 @@ use Rattle.member_state.specs.declared.state.ProcessState.{ProcessState}
 pub record IsFirst (s : Setting) (p : Process) (st : ProcessState) : Type 0 where
   pub limit : p.batch_limit ≡ st.batch_limit
   pub pool : st.pool.pool ≡ empty_pool s.genesis
-  pub place : Tells s p (empty_pool s.genesis) st.own
+  pub place : IsOwnOf s p (empty_pool s.genesis) st.own
   pub phase : IsIn st.phase p
-  pub asked : TellsPerceived st.perceived p
+  pub asked : IsPerceivedOf st.perceived p
   pub said : st.said.claims ≡ []
   pub said_from : st.said_from ≡ 0
   pub said_before : st.said_before.items ≡ []
@@ -64,7 +64,7 @@ starts s me limit st some few number view zero is = record {
     previous_ranged = λ (h : Pool) none. absurd cc;
   };
   limit = is.limit;
-  place = subst (λ h. Tells s (start s me limit) h st.own) (sym is.pool) is.place;
+  place = subst (λ h. IsOwnOf s (start s me limit) h st.own) (sym is.pool) is.place;
   phase = is.phase;
   asked = is.asked;
   said = sym is.said;

@@ -2,19 +2,19 @@
 -- Names here (* for this crate alone):
 --   signed_here, claims_of, IsSigned, IsDecision, ArePairs, AreRanged, IsStateOf, HasProcess, IsReal, StartsWith*
 --   what is reported of it: signers_in*, liars_of, kept_of, halted_at
-use Rattle.std.specs.Prelude.{◌≡◌, ◌≢◌, ℕ, ◌<◌, ◌≤◌, ◌==◌, true, List, [], ◌∷◌, ◌++◌, length, map, drop, filter, find, All, AllPairs, Option, Some, None, option_and_then, if◌then◌else◌, IsTrue}
+use Rattle.std.specs.Prelude.{◌≡◌, ◌≢◌, ℕ, ◌<◌, ◌≤◌, ◌==◌, true, List, [], ◌∷◌, ◌++◌, length, drop, filter, find, All, AllPairs, Option, Some, None, option_and_then, if◌then◌else◌, IsTrue}
 use Rattle.std.specs.List.{flat_map}
-use Rattle.byte_defs.specs.Orders.{sorted}
 use Rattle.message_defs.specs.Limits.{most_members}
 use Rattle.message_defs.specs.Updates.{Value}
 use Rattle.message_defs.specs.Statements.{Claim, ReadyAt, view_of}
 use Rattle.message_defs.specs.Spelling.{IsClaim}
 use Rattle.group_defs.specs.Views.{View, is_member, is_possible}
+pub use Rattle.group_defs.specs.Process.{liars_of, signers_in}
 use Rattle.group_defs.specs.Process.{Setting, Pool, Left, Process, keyed, places_in}
 use Rattle.group_defs.specs.Certified.{value_at}
 use Rattle.group_defs.specs.Accounts.{account_of}
-use Rattle.own_place.specs.Owns.{Tells}
-use Rattle.ending_rules.specs.Perceiving.{TellsPerceived}
+use Rattle.own_place.specs.Owns.{IsOwnOf}
+use Rattle.ending_rules.specs.Perceiving.{IsPerceivedOf}
 use Rattle.view_phases.specs.Phases.{IsIn}
 use Rattle.reliable_mcast.specs.Archives.{Keeps}
 use Rattle.own_moves.specs.Lawful.{IsLawful}
@@ -71,9 +71,9 @@ pub record IsStateOf (s : Setting) (p : Process) (st : ProcessState) : Type 0 wh
   pub halted_beyond : p.halted ≡ true → (d : ℕ × Value) → p.decision ≡ Some d → d.1.cut < places_in p.delivered
   pub ranged : AreRanged p.conflicts p.left p.previous
   pub limit : p.batch_limit ≡ st.batch_limit
-  pub place : Tells s p st.pool.pool st.own
+  pub place : IsOwnOf s p st.pool.pool st.own
   pub phase : IsIn st.phase p
-  pub asked : TellsPerceived st.perceived p
+  pub asked : IsPerceivedOf st.perceived p
   pub said : signed_here p ≡ st.said.claims
   pub signed : IsSigned p.signed st.said_before.items st.said_from st.said.claims
   pub pairs : p.conflicts ≡ st.conflicts.pairs
@@ -96,14 +96,6 @@ pub record StartsWith (s : Setting) (listed : List (ℕ × List ℕ)) (first : V
   pub genesis : s.genesis ≡ first
 
 -- ---- what is reported of it
-
--- the signers of these pairs, rising
-abbrev pub signers_in : List (Claim × Claim) → List ℕ
-signers_in pairs = sorted (λ q. q ∷ []) (map (λ pair. pair.0.signer) pairs)
-
--- the signers with a kept conflict, rising
-abbrev pub liars_of : Process → List ℕ
-liars_of p = signers_in p.conflicts
 
 -- the pair that is kept of the signer q
 abbrev pub kept_of : ℕ → List (Claim × Claim) → Option (Claim × Claim)

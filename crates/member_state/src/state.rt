@@ -3,7 +3,7 @@ ghost use Rattle.std.specs.Option.{option_map};
 ghost use Rattle.group_defs.specs.Process.{Setting, Process, start};
 ghost use Rattle.group_defs.specs.Accounts.{account_of};
 ghost use Rattle.own_place.specs.Words.{empty_pool};
-ghost use Rattle.own_place.specs.Owns.{Tells};
+ghost use Rattle.own_place.specs.Owns.{IsOwnOf};
 ghost use Rattle.accounts.specs.Views.{account};
 ghost use Rattle.member_events.specs.Below.{claim as claim_of};
 ghost use Rattle.member_state.specs.States.{ArePairs, IsStateOf, StartsWith, kept_of, signers_in, liars_of, halted_at};
@@ -91,7 +91,7 @@ impl Drop for ProcessState {
 
 // The own place of a process that starts in the view.
 fn first_place(alloc: Global, roster: &Roster, genesis: &View, me: Pid) -> Own
-    ensures { (s : Setting) (limit : ℕ) → StartsWith s roster.now genesis.now → Tells s (start s me limit) (empty_pool genesis.now) result }
+    ensures { (s : Setting) (limit : ℕ) → StartsWith s roster.now genesis.now → IsOwnOf s (start s me limit) (empty_pool genesis.now) result }
 {
     Own {
         me,

@@ -18,7 +18,7 @@ use Rattle.pool_laws.proofs.Members.{All-mem, mem-All}
 use Rattle.pool_laws.proofs.Sorting.{mem-put}
 use Rattle.claim_hearing.specs.Kept.{Holding, Pairing}
 use Rattle.claim_hearing.specs.Hearing.{IsHeard}
-use Rattle.member_state.specs.Perceiving.{asking, TellsPerceived}
+use Rattle.member_state.specs.Perceiving.{asking, IsPerceivedOf}
 use Rattle.member_state.specs.Parts.{has_update}
 use Rattle.member_state.specs.Perceiving.{Perceived}
 use Rattle.member_state.specs.Phases.{Phase, Observing, OpenView, ClosingView, DecidedView, HaltedView, IsIn}
@@ -188,7 +188,7 @@ module _ (s : Setting) (p : Process) (st : ProcessState) (is : IsStateOf s p st)
 
   -- one that is perceived now
   pub perceives-now : (u : Update) → IsUpdate u → has_update st.perceived u ≡ false → (set' : Perceived)
-      → TellsPerceived set' (perceives p u) → (account' : code.Account)
+      → IsPerceivedOf set' (perceives p u) → (account' : code.Account)
       → account_as account' ≡ record
       (account_as st.account) { perceived = put perceived_numbers (st.pool.pool.view.number, u) (account_as st.account).perceived }
       → IsStateOf s (perceives p u) (record st { perceived = set'; account = account' })
@@ -231,7 +231,7 @@ module _ (s : Setting) (p : Process) (st : ProcessState) (is : IsStateOf s p st)
           before = is.place.before;
         };
         phase = perceiving-phase st.phase p (put perceived_numbers (p.pool.view.number, u) p.perceived) is.phase;
-        asked = subst (TellsPerceived set') so tells;
+        asked = subst (IsPerceivedOf set') so tells;
         said = is.said;
         signed = is.signed;
         pairs = is.pairs;

@@ -9,7 +9,7 @@ use Rattle.group_defs.specs.Process.{Orders, Setting, Pool, Process}
 use Rattle.group_defs.specs.Certified.{number_of_members, payload_at, is_signed, own_orders, messages}
 use Rattle.group_defs.specs.Due.{window, next_messages, next_batch, least_due}
 use Rattle.own_place.specs.declared.own.Own.{Own}
-use Rattle.own_place.specs.Owns.{Tells}
+use Rattle.own_place.specs.Owns.{IsOwnOf}
 use Rattle.own_place.specs.Signed.{has_slot}
 use Rattle.pool_laws.specs.Least.{IsLeastBelow}
 use Rattle.pool_laws.proofs.Heard.{payload-certified}
@@ -24,7 +24,7 @@ use Rattle.multicast_rules.specs.Ordering.{is_in_turn, TakesNext}
 -- ---- the manager
 
 -- by the own place, it may order
-pub may-order : (s : Setting) (p : Process) (h : Pool) (own : Own) → Tells s p h own
+pub may-order : (s : Setting) (p : Process) (h : Pool) (own : Own) → IsOwnOf s p h own
     → (is_in_turn own && not (has_slot own.signed (OrderAt h.view.number own.ordered))) ≡ may_order p
 may-order s p h own tells =
     let signed : has_slot own.signed (OrderAt h.view.number own.ordered) ≡ is_signed p (OrderAt p.pool.view.number own.ordered) =
@@ -37,13 +37,13 @@ may-order s p h own tells =
     && not (is_signed p (OrderAt p.pool.view.number (sym tells.signed.how_many i))))
 
 -- in its turn it may order where its next place is not signed
-pub in-turn : (s : Setting) (p : Process) (h : Pool) (own : Own) (x : ℕ) (r : Bool) → Tells s p h own → x ≡ h.view.number
+pub in-turn : (s : Setting) (p : Process) (h : Pool) (own : Own) (x : ℕ) (r : Bool) → IsOwnOf s p h own → x ≡ h.view.number
     → r ≡ has_slot own.signed (OrderAt x own.ordered) → true ≡ is_in_turn own → not r ≡ may_order p
 in-turn s p h own x r tells same signed e = (λ i. e i
     && not ((signed ∙ ap (λ x. has_slot own.signed (OrderAt x own.ordered)) same) i)) ∙ may-order s p h own tells
 
 -- and else not
-pub out-of-turn : (s : Setting) (p : Process) (h : Pool) (own : Own) → Tells s p h own → false ≡ is_in_turn own → false ≡ may_order p
+pub out-of-turn : (s : Setting) (p : Process) (h : Pool) (own : Own) → IsOwnOf s p h own → false ≡ is_in_turn own → false ≡ may_order p
 out-of-turn s p h own tells e = (λ i. e i && not (has_slot own.signed (OrderAt h.view.number own.ordered))) ∙ may-order s p h own tells
 
 -- ---- the batch
@@ -116,7 +116,7 @@ no-order s p e = order_is_least s p ∙ ap
     (λ t. if t && nat_lt 0 (length (next_batch p)) then Some (Order p.pool.view.number (length (own_orders p)) (next_batch p)) else None) e
 
 -- the Order that is due is of this batch
-pub order-due : (s : Setting) (p : Process) (h : Pool) (own : Own) (limit : ℕ) (o : Option Batch) → Tells s p h own → p.batch_limit ≡ limit
+pub order-due : (s : Setting) (p : Process) (h : Pool) (own : Own) (limit : ℕ) (o : Option Batch) → IsOwnOf s p h own → p.batch_limit ≡ limit
     → may_order p ≡ true
     → ((before : List Message) → own.orders.items ≡ counts_in h.view before
     → MatchOption o (next_messages limit h before ≡ []) (λ b. next_messages limit h before ≡ b))

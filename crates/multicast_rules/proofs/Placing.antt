@@ -7,7 +7,7 @@ use Rattle.message_defs.specs.Statements.{Batch, Place}
 use Rattle.group_defs.specs.Process.{Places, Setting, Pool, Process}
 use Rattle.group_defs.specs.Due.{least_due}
 use Rattle.own_place.specs.declared.own.Own.{Own}
-use Rattle.own_place.specs.Owns.{Tells}
+use Rattle.own_place.specs.Owns.{IsOwnOf}
 use Rattle.own_place.specs.Signed.{Signed}
 use Rattle.pool_laws.specs.Least.{IsLeastBelow}
 use Rattle.rule_laws.specs.Heard.{IsPool}
@@ -22,7 +22,7 @@ abbrev pub AreClosed : Pool → Signed → ℕ → Type 0
 AreClosed h signed a = (j : ℕ) → j < a → is_order_open h signed j ≡ false
 
 -- the Place that is due is that of the least place that is open
-pub place-due : (s : Setting) (p : Process) (h : Pool) (own : Own) (r : ℕ) (o : Option (ℕ × Batch)) → IsPool h → Tells s p h own
+pub place-due : (s : Setting) (p : Process) (h : Pool) (own : Own) (r : ℕ) (o : Option (ℕ × Batch)) → IsPool h → IsOwnOf s p h own
     → own.position ≡ Some r → own.ended ≡ false
     → IsLeastBelow most_places (is_order_open h own.signed) (option_map (λ e. e.0) o) → IfSome o (λ e. ordered_at h e.0 ≡ Some e.1)
     → least_due s p Places ≡ option_map (λ e. Place h.view.number e.0 e.1) o

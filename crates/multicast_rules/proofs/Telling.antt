@@ -9,7 +9,7 @@ use Rattle.rule_laws.proofs.Outside.{outsider_signs_none, ended_signs_none}
 use Rattle.rule_laws.proofs.Ranks.{rank-at, at-member}
 use Rattle.rule_laws.specs.Least.{is_of_open_view}
 use Rattle.own_place.specs.declared.own.Own.{Own}
-use Rattle.own_place.specs.Owns.{Tells}
+use Rattle.own_place.specs.Owns.{IsOwnOf}
 
 -- one that has a rank is a member
 pub ranked-member : (v : View) (m r : ℕ) → rank_of v m ≡ Some r → is_member v m ≡ true
@@ -31,7 +31,7 @@ stranger-unranked v m e = go (rank_of v m) refl
     go None is = refl
     go (Some r) is = absurd (let clash = sym e ∙ ranked-member v m r is in cc)
 
-module _ (s : Setting) (p : Process) (h : Pool) (own : Own) (tells : Tells s p h own) where
+module _ (s : Setting) (p : Process) (h : Pool) (own : Own) (tells : IsOwnOf s p h own) where
   pub is-member : (r : ℕ) → own.position ≡ Some r → is_member p.pool.view p.me ≡ true
   is-member r e = ranked-member p.pool.view p.me r (tells.position ∙ e)
 

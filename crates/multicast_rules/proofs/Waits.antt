@@ -9,7 +9,7 @@ use Rattle.group_defs.specs.Certified.{heard_on, placed}
 use Rattle.group_defs.specs.Due.{window, least_due}
 use Rattle.stmt_codec.specs.Views.{message}
 use Rattle.own_place.specs.declared.own.Own.{Own}
-use Rattle.own_place.specs.Owns.{Tells, HasSigned, HasDelivered}
+use Rattle.own_place.specs.Owns.{IsOwnOf, HasSigned, HasDelivered}
 use Rattle.own_place.specs.Signed.{has_slot}
 use Rattle.pool_laws.specs.Least.{IsLeastBelow}
 use Rattle.rule_laws.specs.Heard.{IsPool}
@@ -46,14 +46,14 @@ module _ (s : Setting) (p : Process) (own : Own) (signed : HasSigned own p) wher
       (λ k le lt. ap not (sym (signed.slots (Keep p.pool.view.number k []) refl))) least
 
 -- the Echo that is due is that of what waits first
-pub echo-due : (s : Setting) (p : Process) (h : Pool) (own : Own) (r : ℕ) (o : Option (ℕ × ℕ)) → IsPool h → Tells s p h own
+pub echo-due : (s : Setting) (p : Process) (h : Pool) (own : Own) (r : ℕ) (o : Option (ℕ × ℕ)) → IsPool h → IsOwnOf s p h own
     → own.position ≡ Some r → own.ended ≡ false → IsFirstWaiting h own.signed o → least_due s p Echoes ≡ option_map (echo_to p) o
 echo-due s p h own r o pool tells at not_ended first =
     echo_is_least s p o (subst IsPool (sym tells.pool) pool) (is-member s p h own tells r at) (is-open s p h own tells not_ended)
     (first-waits s p own tells.signed o (subst (λ h. IsFirstWaiting h own.signed o) (sym tells.pool) first))
 
 -- the Init that is due is the least one not signed, where that has a payload
-init-due : (s : Setting) (p : Process) (h : Pool) (own : Own) (r x : ℕ) (o : Option ℕ) → x ≡ h.view.number → Tells s p h own
+init-due : (s : Setting) (p : Process) (h : Pool) (own : Own) (r x : ℕ) (o : Option ℕ) → x ≡ h.view.number → IsOwnOf s p h own
     → own.position ≡ Some r → IsLeastBelow most_places (λ l. not (has_slot own.signed (InitAt x l))) o
     → least_due s p Inits ≡ option_map (own_init p) (option_and_then (λ l. if has_payload p l then Some l else None) o)
 init-due s p h own r x o same tells at least =
@@ -62,7 +62,7 @@ init-due s p h own r x o same tells at least =
     (open-inits s p own tells.signed o
     (subst (λ x. IsLeastBelow most_places (λ l. not (has_slot own.signed (InitAt x l))) o) current least))
 
-pub no-init-due : (s : Setting) (p : Process) (h : Pool) (own : Own) (r x : ℕ) → x ≡ h.view.number → Tells s p h own → own.position ≡ Some r
+pub no-init-due : (s : Setting) (p : Process) (h : Pool) (own : Own) (r x : ℕ) → x ≡ h.view.number → IsOwnOf s p h own → own.position ≡ Some r
     → IsLeastBelow most_places (λ l. not (has_slot own.signed (InitAt x l))) None → least_due s p Inits ≡ None
 no-init-due s p h own r x same tells at least = init-due s p h own r x None same tells at least
 
@@ -72,7 +72,7 @@ CountsOwn own h delivered = is_member h.view own.me ≡ true → (p : Process) �
     → delivered ≡ delivered_from own.me p.delivered
 
 pub this-init-due : (s : Setting) (p : Process) (h : Pool) (own : Own) (r x l delivered accepted : ℕ) (t : Bool) → x ≡ h.view.number
-    → Tells s p h own → own.position ≡ Some r → IsLeastBelow most_places (λ l. not (has_slot own.signed (InitAt x l))) (Some l)
+    → IsOwnOf s p h own → own.position ≡ Some r → IsLeastBelow most_places (λ l. not (has_slot own.signed (InitAt x l))) (Some l)
     → CountsOwn own h delivered → length p.accepted ≡ accepted → t ≡ (nat_lt l (delivered + window) && nat_lt (own.earlier + l) accepted)
     → least_due s p Inits ≡ (if t then Some (own_init p l) else None)
 this-init-due s p h own r x l delivered accepted t same tells at least counts all e =
@@ -88,7 +88,7 @@ this-init-due s p h own r x l delivered accepted t same tells at least counts al
     go false = refl
 
 -- the Keep that is due is the least one not signed, where its place is placed
-pub keep-due : (s : Setting) (p : Process) (h : Pool) (own : Own) (r x : ℕ) (o : Option ℕ) → x ≡ h.view.number → Tells s p h own
+pub keep-due : (s : Setting) (p : Process) (h : Pool) (own : Own) (r x : ℕ) (o : Option ℕ) → x ≡ h.view.number → IsOwnOf s p h own
     → own.position ≡ Some r → own.ended ≡ false → IsLeastBelow most_places (λ k. not (has_slot own.signed (KeepAt x k))) o
     → least_due s p Keeps ≡ option_and_then (λ k. option_map (Keep h.view.number k) (slice_get (placed h) k)) o
 keep-due s p h own r x o same tells at not_ended least =

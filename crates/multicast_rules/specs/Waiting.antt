@@ -8,7 +8,7 @@ use Rattle.group_defs.specs.Certified.{heard_on, ordered, placed}
 use Rattle.pool_laws.specs.Least.{IsLeastBelow}
 use Rattle.stmt_codec.specs.Views.{message}
 use Rattle.rule_laws.specs.Placing.{fits}
-pub use Rattle.own_place.specs.Owns.{Tells}
+pub use Rattle.own_place.specs.Owns.{IsOwnOf}
 use Rattle.own_place.specs.Signed.{Signed, has_slot}
 
 -- the member's Init of this number is heard, and the own Echo of its message is not signed

@@ -5,7 +5,7 @@ ghost use Rattle.group_defs.specs.Process.{Setting, Process, Echoes};
 ghost use Rattle.group_defs.specs.Certified as defs;
 ghost use Rattle.group_defs.specs.Due.{least_due};
 ghost use Rattle.stmt_codec.specs.Views.{message};
-ghost use Rattle.own_place.specs.Owns.{Tells};
+ghost use Rattle.own_place.specs.Owns.{IsOwnOf};
 ghost use Rattle.rule_laws.specs.Heard.{IsPool};
 ghost use Rattle.rule_laws.specs.Messages.{echo_to};
 
@@ -18,7 +18,7 @@ use stmt_codec::Slot;
 /// heard Init says.
 pub fn echo_due(pool: &Pool, own: &Own) -> Option<(Pid, u16)>
     // For each process whose own place and pool these are: its least due Echo.
-    ensures least { (s : Setting) (p : Process) → IsPool pool.now.pool → Tells s p pool.now.pool own.now
+    ensures least { (s : Setting) (p : Process) → IsPool pool.now.pool → IsOwnOf s p pool.now.pool own.now
         → least_due s p Echoes ≡ option_map (echo_to p) result }
 
     // Its Init is heard.

@@ -3,7 +3,7 @@ ghost use Rattle.std.specs.Option.{option_map};
 ghost use Rattle.group_defs.specs.Process.{Setting, Process, Inits};
 ghost use Rattle.group_defs.specs.Certified.{number_of_members};
 ghost use Rattle.group_defs.specs.Due.{window, least_due};
-ghost use Rattle.own_place.specs.Owns.{Tells};
+ghost use Rattle.own_place.specs.Owns.{IsOwnOf};
 ghost use Rattle.rule_laws.specs.Messages.{own_init};
 
 use crate::deliveries::counts_of;
@@ -26,7 +26,7 @@ pub fn init_due(pool: &Pool, own: &Own, accepted: u32) -> Option<u16>
     requires { length own.now.counts.items ≡ number_of_members pool.now.pool }
 
     // For each process whose own place and pool these are: its least due Init.
-    ensures least { (s : Setting) (p : Process) → Tells s p pool.now.pool own.now → length p.accepted ≡ accepted
+    ensures least { (s : Setting) (p : Process) → IsOwnOf s p pool.now.pool own.now → length p.accepted ≡ accepted
         → least_due s p Inits ≡ option_map (own_init p) result }
 
     // Its payload was accepted.

@@ -4,7 +4,7 @@ ghost use Rattle.message_defs.specs.Statements as plain;
 ghost use Rattle.group_defs.specs.Process.{Setting, Process, Orders};
 ghost use Rattle.group_defs.specs.Certified.{number_of_members};
 ghost use Rattle.group_defs.specs.Due.{next_messages, least_due};
-ghost use Rattle.own_place.specs.Owns.{Tells};
+ghost use Rattle.own_place.specs.Owns.{IsOwnOf};
 ghost use Rattle.pool_laws.specs.Least.{IsLeastBelow};
 ghost use Rattle.rule_laws.specs.Heard.{IsPool};
 ghost use Rattle.rule_laws.specs.Placing.{may_order, counts_in, is_next};
@@ -29,7 +29,7 @@ fn is_in_turn(own: &Own) -> bool
 
 // Whether it may give that place, which is not signed.
 fn may_order(pool: &Pool, own: &Own) -> bool
-    ensures { (s : Setting) (p : Process) → Tells s p pool.now.pool own.now → result ≡ may_order p }
+    ensures { (s : Setting) (p : Process) → IsOwnOf s p pool.now.pool own.now → result ≡ may_order p }
 {
     let next = Slot::Place {
         view: pool.view().number(),
@@ -92,7 +92,7 @@ pub fn order_due(pool: &Pool, own: &Own, batch_limit: u8) -> Option<(u16, Batch)
     requires few { batch_limit ≤ 16 }
 
     // For each process whose own place and pool these are: its least due Order.
-    ensures { (s : Setting) (p : Process) → IsPool pool.now.pool → Tells s p pool.now.pool own.now → p.batch_limit ≡ batch_limit
+    ensures { (s : Setting) (p : Process) → IsPool pool.now.pool → IsOwnOf s p pool.now.pool own.now → p.batch_limit ≡ batch_limit
         → least_due s p Orders ≡ option_map (λ e. plain.Order pool.now.pool.view.number e.0 e.1) result }
 {
     if !may_order(pool, own) {

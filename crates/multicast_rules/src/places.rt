@@ -5,7 +5,7 @@ ghost use Rattle.message_defs.specs.Statements as plain;
 ghost use Rattle.group_defs.specs.Process.{Setting, Process, Places};
 ghost use Rattle.group_defs.specs.Certified.{number_of_members};
 ghost use Rattle.group_defs.specs.Due.{follows, are_certified, least_due};
-ghost use Rattle.own_place.specs.Owns.{Tells};
+ghost use Rattle.own_place.specs.Owns.{IsOwnOf};
 ghost use Rattle.pool_laws.specs.Least.{IsLeastBelow};
 ghost use Rattle.rule_laws.specs.Heard.{IsPool};
 ghost use Rattle.rule_laws.specs.Placing as rules;
@@ -81,7 +81,7 @@ fn first_fitting(pool: &Pool, signed: &SignedSlots) -> Option<(u16, Batch)>
 /// The place whose Place is due, with its batch; None exactly where none is.
 pub fn place_due(pool: &Pool, own: &Own) -> Option<(u16, Batch)>
     // For each process whose own place and pool these are: its least due Place.
-    ensures { (s : Setting) (p : Process) → IsPool pool.now.pool → Tells s p pool.now.pool own.now
+    ensures { (s : Setting) (p : Process) → IsPool pool.now.pool → IsOwnOf s p pool.now.pool own.now
         → least_due s p Places ≡ option_map (λ e. plain.Place pool.now.pool.view.number e.0 e.1) result }
 {
     own.position?;

@@ -36,7 +36,7 @@ pub data Opening : Type 0 where
 -- what a turn lets out, once its entry is in the journal for good
 pub data Leaving : Type 0 where
   Sends : (process to : ℕ) (frame : List ℕ) → Leaving
-  Tells : (process : ℕ) (note : Note) → Leaving
+  Notes : (process : ℕ) (note : Note) → Leaving
 
 -- what else
 pub data Task : Type 0 where
@@ -86,7 +86,7 @@ pub data Call : Type 0 where
   Serves : Call
   Finishes : Call
   SendsTo : (port : ℕ) (datagram : List ℕ) → Call
-  TellsOf : (process : ℕ) (note : Note) → Call
+  NotesOf : (process : ℕ) (note : Note) → Call
   -- memory for the event
   Steps : (process : ℕ) (event : Event) → Call
   Appends : (entry : Entry) → Call
@@ -107,7 +107,7 @@ opening_call Finish = Finishes
 
 abbrev pub leaving_call : Cast → Leaving → Call
 leaving_call c (Sends p q frame) = SendsTo (c.port q) (c.seal p q frame)
-leaving_call c (Tells p note) = TellsOf p note
+leaving_call c (Notes p note) = NotesOf p note
 
 abbrev pub task_call : Cast → Node → Task → Call
 task_call c n (Take p e) = Steps p e
@@ -250,8 +250,8 @@ unfoldable pub after_leaving : Node → Leaving → Answer → Option Change
 after_leaving n (Sends p q frame) Done = Some (goes n [])
 after_leaving n (Sends p q frame) Failed = Some (record (goes n []) { late = n.late ++ fault_line p })
 after_leaving n (Sends p q frame) _ = None
-after_leaving n (Tells p note) (Said text sends) = Some (record (goes n []) { text = n.text ++ note_line p note ++ text })
-after_leaving n (Tells p note) _ = None
+after_leaving n (Notes p note) (Said text sends) = Some (record (goes n []) { text = n.text ++ note_line p note ++ text })
+after_leaving n (Notes p note) _ = None
 
 -- what a line of the script asks for
 abbrev pub tasks_of_line : List ℕ → Line → List Task
@@ -285,7 +285,7 @@ new_entry c n (Some t) = entry_for c (n.now t.0) t.1 ∷ []
 
 -- what goes out of a turn: its frames, and then its notes
 abbrev pub leaving_of : ℕ → Outcome → List Leaving
-leaving_of p o = map (λ l. Sends p l.0 l.1) (letters_of o) ++ map (Tells p) o.notes
+leaving_of p o = map (λ l. Sends p l.0 l.1) (letters_of o) ++ map (Notes p) o.notes
 
 abbrev pub new_leaving : Cast → Node → Option (ℕ × Event) → List Leaving
 new_leaving c n None = []

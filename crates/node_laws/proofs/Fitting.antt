@@ -22,7 +22,7 @@ use Rattle.safety_laws.proofs.Journalled.{journal_gives_the_turn}
 use Rattle.node_defs.specs.Scripts.{Line, Of, Snap, Said, Hand, Receive, Other, line_said, line_of_words, line_if_hosted, said_or_other, most_lines}
 use Rattle.node_defs.specs.Lines.{Stop, Full, BadLine}
 use Rattle.node_defs.specs.Casts.{Cast, from_start, live, outcome_of, entry_for, kept_turn, entries_of, taken_up, may_have_written}
-use Rattle.node_defs.specs.Nodes.{Node, Opening, Leaving, Sends, Tells, Task, Take, Append, Flush, Say, Ask, Get, Word, Post, Mark, Answer, Done, Failed, Unremembered, Came, Broken, Named, Digest, Change, Snapper, goes, ends, done_or, is_full, after_step, more_gets, after_came, asks, post_tasks, after_get, after_task, after_leaving, tasks_of_line, after_line, after_read, new_entry, changed, if_fits, counts, by_tasks, by_leaving, opened_one, by_opening, by_answer, unless_stopped, answered, run}
+use Rattle.node_defs.specs.Nodes.{Node, Opening, Leaving, Sends, Notes, Task, Take, Append, Flush, Say, Ask, Get, Word, Post, Mark, Answer, Done, Failed, Unremembered, Came, Broken, Named, Digest, Change, Snapper, goes, ends, done_or, is_full, after_step, more_gets, after_came, asks, post_tasks, after_get, after_task, after_leaving, tasks_of_line, after_line, after_read, new_entry, changed, if_fits, counts, by_tasks, by_leaving, opened_one, by_opening, by_answer, unless_stopped, answered, run}
 use Rattle.node_defs.specs.Nodes as nodes
 use Rattle.node_defs.specs.Lives.{staged, staged_behind, staged_by, Found, Run, with_or_without, leaves_by, leaves, opened_in, last_of, lives, FitsAt, FitsBehind, FitsFrom, IsHosted, AreHosted, SignsValidly, AreMade, IsSound, AreNumbered, IsOpened, LeavesFit, Lives, LivesOn}
 use Rattle.node_laws.proofs.Entries.{taken-me}
@@ -231,14 +231,14 @@ leaving-good c n (Sends p q frame) Broken = tt
 leaving-good c n (Sends p q frame) (nodes.Said text sends) = tt
 leaving-good c n (Sends p q frame) (Named k) = tt
 leaving-good c n (Sends p q frame) (Digest d) = tt
-leaving-good c n (Tells p note) (nodes.Said text sends) = record { before = tt; taken = tt }
-leaving-good c n (Tells p note) Done = tt
-leaving-good c n (Tells p note) Failed = tt
-leaving-good c n (Tells p note) Unremembered = tt
-leaving-good c n (Tells p note) (Came bytes) = tt
-leaving-good c n (Tells p note) Broken = tt
-leaving-good c n (Tells p note) (Named q) = tt
-leaving-good c n (Tells p note) (Digest d) = tt
+leaving-good c n (Notes p note) (nodes.Said text sends) = record { before = tt; taken = tt }
+leaving-good c n (Notes p note) Done = tt
+leaving-good c n (Notes p note) Failed = tt
+leaving-good c n (Notes p note) Unremembered = tt
+leaving-good c n (Notes p note) (Came bytes) = tt
+leaving-good c n (Notes p note) Broken = tt
+leaving-good c n (Notes p note) (Named q) = tt
+leaving-good c n (Notes p note) (Digest d) = tt
 
 -- ---- lines
 

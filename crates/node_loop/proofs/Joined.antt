@@ -5,7 +5,7 @@ use Rattle.std.specs.Option.{IsSomeAnd}
 use Rattle.kit_defs.specs.Kits.{Kit}
 use Rattle.journal_defs.specs.declared.Version.{Version}
 use Rattle.journal_defs.specs.Entries.{Entry}
-use Rattle.journal_defs.specs.Crashes.{Stands}
+use Rattle.journal_defs.specs.Crashes.{Survives}
 use Rattle.journal_disk.specs.Disks.{LeavesOnly, LeavesStaged}
 use Rattle.journal_disk.proofs.Moments.{then, weaker}
 use Rattle.journal_rp.specs.Stages.{version_of}
@@ -59,7 +59,7 @@ module _ {D : Type 0} (seen : D → Option (List ℕ)) (may_leave : D → List �
   module _ (entries : List Entry) (node : Node) (holds : held (version_of r.journal) entries)
       (opening : Goes c snap most (opens c f.begins go entries) x node y) (is : IsNode f (seen mid) (may_leave mid) r node [])
       (tells : IsSome (seen old) → IsSome (seen mid))
-      (moments : IsSome (seen old) → Stands f.head f.found.sure (may_leave old)
+      (moments : IsSome (seen old) → Survives f.head f.found.sure (may_leave old)
       → LeavesOnly moment left_since old mid (LeavesStaged f.head f.found.sure (may_leave old))) where
     abbrev n : Node
     n = opens c f.begins go entries
@@ -73,7 +73,7 @@ module _ {D : Type 0} (seen : D → Option (List ℕ)) (may_leave : D → List �
 
     pub one-run : (last : Node) (z : Outside) (new : D) (goes : Goes c snap most node y last z)
         → (IsSome (seen mid) → LeavesOnly moment left_since mid new (LeftFrom c snap f node goes.answers []))
-        → IfSome (seen mid) (λ file. Stands f.head last.kept (may_leave new))
+        → IfSome (seen mid) (λ file. Survives f.head last.kept (may_leave new))
         → HasRunFrom seen may_leave moment left_since r.kit.now from held most go x old last z new
     unfolding parts_go_on
     one-run last z new goes leaves finds =
@@ -119,7 +119,7 @@ module _ {D : Type 0} (seen : D → Option (List ℕ)) (may_leave : D → List �
 
   abbrev pub FoundAgain : Kit → Option SnapSaid → Type 0
   FoundAgain kit s = (version : Version) (es : List Entry) → IsSome (seen old)
-      → Stands (head_in (cast_of kit version) s (seen old)) es (may_leave old)
+      → Survives (head_in (cast_of kit version) s (seen old)) es (may_leave old)
       → LeavesOnly moment left_since old mid (LeavesStaged (head_in (cast_of kit version) s (seen old)) es (may_leave old))
 
   abbrev pub Ends : Kit → Option SnapSaid → Stop → Type 0
@@ -134,7 +134,7 @@ module _ {D : Type 0} (seen : D → Option (List ℕ)) (may_leave : D → List �
 
   -- the bytes before the place are those that the run found there
   same-head : (t : SnapSaid) (head : List ℕ) → IsHeadIn (Some t) (seen old) head → IsSome (seen old) → (es : List Entry)
-      → Stands head es (may_leave old) → head ≡ head_in (cast_in r) (Some t) (seen old)
+      → Survives head es (may_leave old) → head ≡ head_in (cast_in r) (Some t) (seen old)
   same-head t head is some es stands =
       by (seen old) is (not-empty seen may_leave moment left_since head es old (reads_image old) some stands) some
     where
@@ -171,7 +171,7 @@ module _ {D : Type 0} (seen : D → Option (List ℕ)) (may_leave : D → List �
       (λ some stands.
       let same = same-head t head opened.head some f.sure stands in
       subst (λ (b : List ℕ). LeavesOnly moment left_since old mid (LeavesStaged b f.sure (may_leave old))) (sym same)
-      (moments (version_of r.journal) f.sure some (subst (λ (b : List ℕ). Stands b f.sure (may_leave old)) same stands)))
+      (moments (version_of r.journal) f.sure some (subst (λ (b : List ℕ). Survives b f.sure (may_leave old)) same stands)))
       ends.stop.last (outside link_now sink_now m i) new ends.stop.goes ends.stop.leaves ends.stands in
       ran_on why ahead (stops-so (Some t) opened why ahead script) (record {
         source = m;

@@ -7,7 +7,7 @@ use Rattle.std.specs.Prelude.{◌≡◌, ◌⊎◌, ℕ, List, [], Option, Some,
 use Rattle.kit_defs.specs.Kits.{Kit}
 use Rattle.journal_defs.specs.declared.Version.{Version}
 use Rattle.journal_defs.specs.Entries.{Entry}
-use Rattle.journal_defs.specs.Crashes.{Stands}
+use Rattle.journal_defs.specs.Crashes.{Survives}
 use Rattle.journal_disk.specs.Disks.{HasRest, LeavesOnly, LeavesStaged}
 use Rattle.node_defs.specs.Casts.{Cast, cast_of, from_start}
 use Rattle.node_defs.specs.Lines.{Stop}
@@ -63,14 +63,14 @@ pub record HasRunFrom {D : Type 0} (seen : D → Option (List ℕ)) (may_leave :
   pub holds : held version entries
   pub goes : Goes (cast_of kit version) (snaps_from (from version) (seen old) (cast_of kit version)) most
       (opens (cast_of kit version) (from version).begins go entries) x last y
-  pub leaves : IsSome (seen old) → Stands (from version).head (from version).found.sure (may_leave old)
+  pub leaves : IsSome (seen old) → Survives (from version).head (from version).found.sure (may_leave old)
       → LeavesOnly moment left_since old new
       (MayBeLeft (cast_of kit version) (snaps_from (from version) (seen old) (cast_of kit version)) (from version)
       (opens (cast_of kit version) (from version).begins go entries) goes.answers (may_leave old))
   pub once_opened : IsSome (seen old) → LeavesOnceOpened seen may_leave moment left_since (cast_of kit version)
       (snaps_from (from version) (seen old) (cast_of kit version)) (from version)
       (opens (cast_of kit version) (from version).begins go entries) goes.answers new
-  pub finds : IsSome (seen old) → Stands (from version).head last.kept (may_leave new)
+  pub finds : IsSome (seen old) → Survives (from version).head last.kept (may_leave new)
 
 -- the same of a node that began at the start of its journal; `f.sure` is what this run found
 abbrev pub HasRun : {D : Type 0} → (D → Option (List ℕ)) → (D → List ℕ → Type 0) → (D → ℕ) → (D → ℕ → List ℕ → Type 0) → Kit → ℕ → Found → ℕ
@@ -86,10 +86,10 @@ pub record HasNotOpenedBy {D : Type 0} (seen : D → Option (List ℕ)) (may_lea
   -- it has written no snapshot, however it makes one
   pub snap : Snapper
   pub unopened : Unopened kit s snap most go (seen old) x y why
-  pub leaves : (version : Version) → IsSome (seen old) → Stands (head_in (cast_of kit version) s (seen old)) f.sure (may_leave old)
+  pub leaves : (version : Version) → IsSome (seen old) → Survives (head_in (cast_of kit version) s (seen old)) f.sure (may_leave old)
       → LeavesOnly moment left_since old new (LeavesStaged (head_in (cast_of kit version) s (seen old)) f.sure (may_leave old))
-  pub finds : (version : Version) → IsSome (seen old) → Stands (head_in (cast_of kit version) s (seen old)) f.sure (may_leave old)
-      → Stands (head_in (cast_of kit version) s (seen old)) f.sure (may_leave new)
+  pub finds : (version : Version) → IsSome (seen old) → Survives (head_in (cast_of kit version) s (seen old)) f.sure (may_leave old)
+      → Survives (head_in (cast_of kit version) s (seen old)) f.sure (may_leave new)
 
 abbrev pub HasNotOpened : {D : Type 0} → (D → Option (List ℕ)) → (D → List ℕ → Type 0) → (D → ℕ) → (D → ℕ → List ℕ → Type 0) → Kit → ℕ → Found
     → ℕ → Outside → D → Stop → Outside → D → Type 0

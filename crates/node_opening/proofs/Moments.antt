@@ -7,7 +7,7 @@ use Rattle.journal_defs.specs.declared.Version.{Version}
 use Rattle.journal_defs.specs.declared.Version.TheVariants.{One, Two}
 use Rattle.journal_defs.specs.Entries.{Entry}
 use Rattle.journal_defs.specs.Journals.{Header, header_bytes, up_to_gate}
-use Rattle.journal_defs.specs.Crashes.{Stands}
+use Rattle.journal_defs.specs.Crashes.{Survives}
 use Rattle.journal_disk.specs.Disks.{EndsAt, LeavesOnly, LeavesStaged, OnlyReads}
 use Rattle.journal_disk.proofs.Moments.{weaker}
 use Rattle.journal_disk.proofs.OnceRead.{reads_before}
@@ -31,7 +31,7 @@ pub record HasFront (head : List ℕ) (es : List Entry) (image : List ℕ) : Typ
   behind : List ℕ
   parts : image ≡ up_to_gate head es ++ gate ∷ behind
 
-front-of : (head : List ℕ) (es : List Entry) (images : List ℕ → Type 0) → Stands head es images → (image : List ℕ) → images image
+front-of : (head : List ℕ) (es : List Entry) (images : List ℕ → Type 0) → Survives head es images → (image : List ℕ) → images image
     → HasFront head es image
 front-of head es images stands image now = ⊎_elim
     (λ rest. record { gate = 0; behind = (rest image now).behind; parts = (rest image now).parts })
@@ -42,7 +42,7 @@ front-of head es images stands image now = ⊎_elim
 
 module _ {D : Type 0} (seen : D → Option (List ℕ)) (may_leave : D → List ℕ → Type 0) (moment : D → ℕ) (left_since : D → ℕ → List ℕ → Type 0)
     (head : List ℕ) (es : List Entry) (old : D) (image : IfSome (seen old) (may_leave old)) (some : IsSome (seen old))
-    (stands : Stands head es (may_leave old)) where
+    (stands : Survives head es (may_leave old)) where
   pub front-there : (file : List ℕ) → seen old ≡ Some file → HasFront head es file
   front-there file reported = front-of head es (may_leave old) stands file
       (subst (λ (o : Option (List ℕ)). IfSome o (may_leave old)) reported image)
@@ -65,17 +65,17 @@ module _ {D : Type 0} (seen : D → Option (List ℕ)) (may_leave : D → List �
 
   pub read-stands : (new : D)
       → (IsSomeAnd (seen old) (λ file. file ≢ []) → OnlyReads seen may_leave moment left_since old new)
-      → Stands head es (may_leave new)
+      → Survives head es (may_leave new)
   read-stands new only = fewer_stand head es (may_leave old) (may_leave new) (λ c now. ((only not-empty).images c).0 now) stands
 
   -- and as its journal is finished
   module _ (mid new : D) (only : IsSomeAnd (seen old) (λ file. file ≢ []) → OnlyReads seen may_leave moment left_since old mid)
       (gate : ℕ) (fs : List Entry) (ending : seen mid ≡ seen old → EndsAt (seen mid) head fs gate) where
-    pub finish-stands : ((front : List ℕ) (gs hs : List Entry) → Stands front gs (may_leave mid) → EndsAt (seen mid) front hs gate
-        → Stands front gs (may_leave new)) → Stands head es (may_leave new)
+    pub finish-stands : ((front : List ℕ) (gs hs : List Entry) → Survives front gs (may_leave mid) → EndsAt (seen mid) front hs gate
+        → Survives front gs (may_leave new)) → Survives head es (may_leave new)
     finish-stands then = then head es fs (read-stands mid only) (ending (only not-empty).reads)
 
-    pub finish-moments : ((front : List ℕ) (gs hs : List Entry) → Stands front gs (may_leave mid) → EndsAt (seen mid) front hs gate
+    pub finish-moments : ((front : List ℕ) (gs hs : List Entry) → Survives front gs (may_leave mid) → EndsAt (seen mid) front hs gate
         → LeavesOnly moment left_since mid new (LeavesStaged front gs (may_leave mid)))
         → LeavesOnly moment left_since old new (LeavesStaged head es (may_leave old))
     finish-moments any =

@@ -12,7 +12,7 @@ use Rattle.node_traces.specs.Goes.{Outside, Goes}
 use Rattle.node_traces.proofs.Going.{parts_go_on}
 use Rattle.opening_laws.specs.Opening.{HasToOpen, FailsAtOne, StopsBy, binds, left_to_open, stopped_by}
 use Rattle.opening_laws.proofs.Opened.{opens_in_order}
-use Rattle.restored_hosts.specs.Below.{Tells, SnapSaid, outside}
+use Rattle.restored_hosts.specs.Below.{HasAnswered, SnapSaid, outside}
 use Rattle.node_opening.specs.Begins.{begins_by}
 use Rattle.node_opening.specs.Holding.{HoldsBy}
 use Rattle.node_opening.specs.Opened.{Unopened, reading, opening}
@@ -64,7 +64,7 @@ module _ {V : Type 0} (heard : V → List Asked → Type 0) (service : V) (c : C
     (source : SourceSeen) (h : List Asked) (ready : HasToOpen n (Serve ∷ Finish ∷ [])) where
   -- as the code has it: the lines that the service made of none
   pub serves : (s t : SinkSeen) (first text bytes : List ℕ) → first ≡ [] → bytes ≡ text
-      → Tells heard service h c (map n.now c.hosted) Serves first text → SinkWrote s t bytes
+      → HasAnswered heard service h c (map n.now c.hosted) Serves first text → SinkWrote s t bytes
       → HeardBy heard service (λ i. Goes c snap most n (outside link s source h) (left_to_open n (Finish ∷ [])) (outside link t source i))
   serves s t first text bytes none lent tells wrote = record {
     history = h ++ one_asked c (map n.now c.hosted) Serves (Said tells.text []);
@@ -74,7 +74,7 @@ module _ {V : Type 0} (heard : V → List Asked → Type 0) (service : V) (c : C
   }
 
   pub serves-untold : (s t : SinkSeen) (first text bytes : List ℕ) → first ≡ [] → bytes ≡ text
-      → Tells heard service h c (map n.now c.hosted) Serves first text → SinkFailed s t bytes
+      → HasAnswered heard service h c (map n.now c.hosted) Serves first text → SinkFailed s t bytes
       → HeardBy heard service (λ i. StopsBy c snap most n (outside link s source h) WriteFailed (outside link t source i))
   serves-untold s t first text bytes none lent tells failed = record {
     history = h ++ one_asked c (map n.now c.hosted) Serves (Said tells.text []);

@@ -3,7 +3,7 @@ ghost use Rattle.std.specs.Prelude.{◌≡◌, ℕ, List, Option, IfErr, IfOk, I
 ghost use Rattle.kit_defs.specs.Kits.{IsKit};
 ghost use Rattle.journal_defs.specs.declared.Version.{Version};
 ghost use Rattle.journal_defs.specs.Entries.{Entry};
-ghost use Rattle.journal_defs.specs.Crashes.{Stands};
+ghost use Rattle.journal_defs.specs.Crashes.{Survives};
 ghost use Rattle.journal_disk.specs.Disks.{LeavesOnly, LeavesStaged};
 ghost use Rattle.node_defs.specs.Casts.{cast_of};
 ghost use Rattle.node_defs.specs.Nodes.{Snapper};
@@ -60,13 +60,13 @@ pub fn open<'a, D: Disk, L: Link, K: Sink, V: Service>(
 
     // A crash at any moment leaves a well formed journal with the entries that the run found, or with the staged one too.
     ensures moments { (s : Option SnapSaid) (version : Version) (es : List Entry) → BeginsBy kit.now s snap → IsSome (D.seen disk.old)
-        → let head = head_in (cast_of kit.now version) s (D.seen disk.old) in Stands head es (D.may_leave disk.old)
+        → let head = head_in (cast_of kit.now version) s (D.seen disk.old) in Survives head es (D.may_leave disk.old)
         → LeavesOnly D.moment D.left_since disk.old disk.new (LeavesStaged head es (D.may_leave disk.old)) }
 
     // And what the next run may find.
     ensures stands { (s : Option SnapSaid) (version : Version) (es : List Entry) → BeginsBy kit.now s snap → IsSome (D.seen disk.old)
-        → let head = head_in (cast_of kit.now version) s (D.seen disk.old) in Stands head es (D.may_leave disk.old)
-        → Stands head es (D.may_leave disk.new) }
+        → let head = head_in (cast_of kit.now version) s (D.seen disk.old) in Survives head es (D.may_leave disk.old)
+        → Survives head es (D.may_leave disk.new) }
     ensures cause { HasDiskCause (D.faults disk.old) (D.faults disk.new) result }
 {
     let readers = read_journal(alloc, kit, snap, disk)?;

@@ -2,7 +2,7 @@
 ghost use Rattle.std.specs.Prelude.{◌≡◌, ◌++◌, OnOk};
 ghost use Rattle.node_defs.specs.Lines.{drop_line};
 ghost use Rattle.node_traces.specs.Seen.{sink_seen};
-ghost use Rattle.node_taking.specs.Telling.{Says};
+ghost use Rattle.node_taking.specs.Telling.{WritesText};
 ghost use Rattle.node_receiving.specs.Receiving.{end_text, fault_text};
 
 use node_taking::{LinkFault, Stop, push_drop, push_fault, push_recv, say};
@@ -19,7 +19,7 @@ pub(crate) fn say_drop<K: Sink>(
     fault: LinkFault,
     output: &mut K,
 ) -> Result<(), Stop>
-    ensures { Says result (drop_line me fault) (sink_seen K.written K.faults output.old) (sink_seen K.written K.faults output.new) }
+    ensures { WritesText result (drop_line me fault) (sink_seen K.written K.faults output.old) (sink_seen K.written K.faults output.new) }
 {
     let mut line = Vec::new(alloc);
     push_drop(&mut line, me, fault)?;
@@ -52,7 +52,7 @@ pub(crate) fn say_end<K: Sink>(
     count: u16,
     output: &mut K,
 ) -> Result<(), Stop>
-    ensures { Says result (end_text me failed count) (sink_seen K.written K.faults output.old) (sink_seen K.written K.faults output.new) }
+    ensures { WritesText result (end_text me failed count) (sink_seen K.written K.faults output.old) (sink_seen K.written K.faults output.new) }
 {
     let mut text = Vec::new(alloc);
     push_end(&mut text, me, failed, count)?;

@@ -10,7 +10,7 @@ use Rattle.group_defs.specs.Process.{all_kinds, Setting}
 use Rattle.node_defs.specs.Casts.{Cast, from_start}
 use Rattle.journal_defs.specs.Entries.{Entry}
 use Rattle.node_defs.specs.Lines.{Stop, status_of, stop_line}
-use Rattle.node_defs.specs.Nodes.{Node, Call, Binds, Writes, Serves, Finishes, SendsTo, TellsOf, Steps, Appends, Asks, ReceivesOn, Words, Marks, ReadsLine, Rests, Answer, Done, Failed, Came, Said, Digest, call_of, answered, opens}
+use Rattle.node_defs.specs.Nodes.{Node, Call, Binds, Writes, Serves, Finishes, SendsTo, NotesOf, Steps, Appends, Asks, ReceivesOn, Words, Marks, ReadsLine, Rests, Answer, Done, Failed, Came, Said, Digest, call_of, answered, opens}
 
 pub record Outside : Type 0 where
   -- the lines that are left of the script
@@ -47,7 +47,7 @@ answer o Serves = (Said [] [], o)
 answer o Finishes = journal_answer o
 answer o (SendsTo port d) = if has o.bad_link o.link then (Failed, link_call o)
     else (Done, record (link_call o) { sent = o.sent ++ (port, d) ∷ []; coming = o.coming ++ (port, d) ∷ [] })
-answer o (TellsOf p note) = (Said [] [], o)
+answer o (NotesOf p note) = (Said [] [], o)
 answer o (Steps p e) = (Done, o)
 answer o (Appends e) = journal_answer o
 answer o (Asks p e notes above) = (Done, o)

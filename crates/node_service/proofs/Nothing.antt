@@ -6,7 +6,7 @@ use Rattle.member_events.specs.declared.events.Sending.{Sending}
 use Rattle.node_defs.specs.Casts.{Cast}
 use Rattle.node_defs.specs.Nodes.{Call, Words, Answer, Done, Said}
 use Rattle.node_traces.specs.Service.{Asked, one_asked}
-use Rattle.node_service.specs.Answers.{GoesOn, Tells, HasNone}
+use Rattle.node_service.specs.Answers.{GoesOn, HasAnswered, HasNone}
 use Rattle.node_service.specs.Silent.{IsNothing, AreNothing}
 
 nothing-more : (h : List Asked) (i : Asked) → AreNothing h → IsNothing i.call i.answer → AreNothing (h ++ i ∷ [])
@@ -24,7 +24,7 @@ adds_nothing old = ([], sym (append-nil old))
 module _ {V : Type 0} (service : V) (h : List Asked) (c : Cast) (are : AreNothing h) where
   -- nothing was said
   pub tells_nothing : (shown : List Process) (call : Call) (old : List ℕ) → IsNothing call (Said [] [])
-      → Tells (λ (v : V) (i : List Asked). AreNothing i) service h c shown call old old
+      → HasAnswered (λ (v : V) (i : List Asked). AreNothing i) service h c shown call old old
   tells_nothing shown call old is = record {
     text = [];
     reported = sym (append-nil old);

@@ -13,7 +13,7 @@ abbrev pub GoesOn : List ℕ → List ℕ → Type 0
 GoesOn before now = (more : List ℕ) × (now ≡ before ++ more)
 
 -- the lines grew by this text, the service's answer to the call, at which it was shown these processes of the cast
-pub record Tells {V : Type 0} (heard : V → List Asked → Type 0) (service : V) (before : List Asked) (c : Cast) (shown : List Process)
+pub record HasAnswered {V : Type 0} (heard : V → List Asked → Type 0) (service : V) (before : List Asked) (c : Cast) (shown : List Process)
     (call : Call) (old new : List ℕ) : Type 0 where
   pub text : List ℕ
   pub reported : new ≡ old ++ text

@@ -5,6 +5,6 @@ pub use Rattle.group_defs.specs.Events.{Note, Delivers, Installs, Liar, Spent, H
 pub use Rattle.journal_defs.specs.Entries.{Event}
 pub use Rattle.journal_defs.specs.declared.Version.{Version}
 pub use Rattle.node_defs.specs.Casts.{Cast, cast_of, host_of, hosted_by}
-pub use Rattle.node_defs.specs.Nodes.{Answer, Asks, Call, Done, Named, Said, Serves, TellsOf, Words}
+pub use Rattle.node_defs.specs.Nodes.{Answer, Asks, Call, Done, Named, Said, Serves, NotesOf, Words}
 pub use Rattle.member_events.specs.declared.events.Sending.{Sending}
 pub use Rattle.node_traces.specs.Service.{Asked, HeardBy, one_asked}

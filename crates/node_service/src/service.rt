@@ -4,10 +4,10 @@ ghost use Rattle.group_defs.specs.Process.{Process};
 ghost use Rattle.kit_defs.specs.Kits.{IsKit};
 ghost use Rattle.journal_defs.specs.declared.Version.{Version};
 ghost use Rattle.node_defs.specs.Casts.{Cast, cast_of};
-ghost use Rattle.node_defs.specs.Nodes.{Asks, Serves, TellsOf};
+ghost use Rattle.node_defs.specs.Nodes.{Asks, Serves, NotesOf};
 ghost use Rattle.node_traces.specs.Service.{Asked, HeardBy, one_asked};
 ghost use Rattle.node_service.specs.Words.{AreHosts, IsHosted, note as note_of, event as event_of};
-ghost use Rattle.node_service.specs.Answers.{AnswersLine, GoesOn, IsAbove, Tells, named_by};
+ghost use Rattle.node_service.specs.Answers.{AnswersLine, GoesOn, IsAbove, HasAnswered, named_by};
 
 use member_events::{Note, Sending};
 use node_hosts::{AnySigner, Event, Hosted, Hosts, Kit};
@@ -41,7 +41,7 @@ pub trait Service {
     fn start(&mut self, kit: &Kit, hosts: &Hosts, lines: &mut Vec<u8>) -> Result<(), NoMemory>
         requires { IsKit kit.now }
         ensures tells { (version : Version) (now : ℕ → Process) (h : List Asked) → heard self.old h
-            → AreHosts (cast_of kit.now version) kit.now now None hosts.now → OnOk result (Tells heard self.new h (cast_of kit.now version)
+            → AreHosts (cast_of kit.now version) kit.now now None hosts.now → OnOk result (HasAnswered heard self.new h (cast_of kit.now version)
             (map now (cast_of kit.now version).hosted) Serves lines.old.items lines.new.items) }
         ensures lost { (h : List Asked) → heard self.old h → OnErr result (heard self.new h) }
         ensures more { GoesOn lines.old.items lines.new.items };
@@ -58,7 +58,7 @@ pub trait Service {
         lines: &mut Vec<u8>,
     ) -> Result<(), NoMemory>
         ensures tells { (c : Cast) (p : ℕ) (now : Process) (h : List Asked) → heard self.old h → IsHosted c p now process.now
-            → OnOk result (Tells heard self.new h c (now ∷ []) (TellsOf p (note_of note.now)) lines.old.items lines.new.items) }
+            → OnOk result (HasAnswered heard self.new h c (now ∷ []) (NotesOf p (note_of note.now)) lines.old.items lines.new.items) }
         ensures lost { (h : List Asked) → heard self.old h → OnErr result (heard self.new h) }
         ensures more { GoesOn lines.old.items lines.new.items };
 

@@ -15,7 +15,7 @@ use Rattle.script_laws.proofs.Service.{asks_the_outside}
 use Rattle.node_receiving.specs.Hosts.{IsAt}
 use Rattle.node_receiving.specs.Stops.{stop as stop_of, Stop as Why}
 use Rattle.node_receiving.specs.Stops as whys
-use Rattle.node_receiving.specs.Taking.{Says, at, outside}
+use Rattle.node_receiving.specs.Taking.{WritesText, at, outside}
 use Rattle.node_receiving.proofs.Handed.{Ends, answers, at-so, ends-after, flush-failed, flushed-so, flushes-does, forgets, says-on, says-stops, with_lines}
 use Rattle.node_serving.specs.Serving.{HasNoAnswer}
 
@@ -69,7 +69,7 @@ module _ (c : Cast) (snap : Snapper) (most : ℕ) (n : Node) (p : ℕ) (line : L
         (record { runs = refl; opened = refl; leaving = refl; tasks = refl })
 
     -- its text is not written
-    pub says-no-more : (T : Type 0) (why : Why) (t : SinkSeen) → Says (let r : Result T Why = Err why in r) text s t
+    pub says-no-more : (T : Type 0) (why : Why) (t : SinkSeen) → WritesText (let r : Result T Why = Err why in r) text s t
         → StopsWith c snap most n around (stop_of why) (outside l t o heard_now)
     says-no-more T why t said =
         stops-from (at n (Say text ∷ to_post)) (outside l s o heard_now) (outside l t o heard_now) (stop_of why) says-it
@@ -104,7 +104,7 @@ module _ (c : Cast) (snap : Snapper) (most : ℕ) (n : Node) (p : ℕ) (line : L
             parts_go_on c snap most asking (at n to_post) flushing around (outside l t o heard_now) (outside k t o heard_now) writes-it
             (posts.all n.now [] [] k late out)
 
-        flush-stops : (T : Type 0) (why : Why) (u : SinkSeen) → Says (let r : Result T Why = Err why in r) late t u
+        flush-stops : (T : Type 0) (why : Why) (u : SinkSeen) → WritesText (let r : Result T Why = Err why in r) late t u
             → Ends c snap most flushing (outside k t o heard_now) (stop_of why) (outside k u o heard_now) n.kept
         flush-stops T whys.NoMemory u same =
             subst (λ (z : SinkSeen). Ends c snap most flushing (outside k t o heard_now) NoMemory (outside k z o heard_now) n.kept) same
@@ -121,7 +121,7 @@ module _ (c : Cast) (snap : Snapper) (most : ℕ) (n : Node) (p : ℕ) (line : L
         flush-stops T _ u bad = absurd bad
 
         -- the lines of failed sends are not written
-        pub flushes-no-more : (T : Type 0) (why : Why) (u : SinkSeen) → Says (let r : Result T Why = Err why in r) late t u
+        pub flushes-no-more : (T : Type 0) (why : Why) (u : SinkSeen) → WritesText (let r : Result T Why = Err why in r) late t u
             → StopsWith c snap most n around (stop_of why) (outside k u o heard_now)
         flushes-no-more T why u said =
             stops-from flushing (outside k t o heard_now) (outside k u o heard_now) (stop_of why) posts-it (flush-stops T why u said)
@@ -158,7 +158,7 @@ module _ (c : Cast) (snap : Snapper) (most : ℕ) (n : Node) (p : ℕ) (line : L
     none-stops number _ same none = absurd none
 
     module _ (text : List ℕ) (letters : List (ℕ × List ℕ)) (has : heard service (heard_of (Said text letters))) where
-      pub said-stops : (why : Why) (t : SinkSeen) → Says (let r : Result (Unit {0}) Why = Err why in r) text s t
+      pub said-stops : (why : Why) (t : SinkSeen) → WritesText (let r : Result (Unit {0}) Why = Err why in r) text s t
           → HeardBy heard service (λ i. StopsWith c snap most n around (stop_of why) (outside l t o i))
       said-stops why t said =
           record { history = heard_of (Said text letters); has = has; holds = says-no-more text letters (Unit {0}) why t said }
@@ -170,7 +170,7 @@ module _ (c : Cast) (snap : Snapper) (most : ℕ) (n : Node) (p : ℕ) (line : L
 
       module _ (t u : SinkSeen) (k : LinkSeen) (late : List ℕ) (wrote : SinkWrote s t text)
           (out : LetOut c n.now (sends_of p letters) (edge l [] [] []) (edge k [] late [])) where
-        pub served : (r : Result (Unit {0}) Why) → Says r late t u
+        pub served : (r : Result (Unit {0}) Why) → WritesText r late t u
             → OnOk r (HeardBy heard service (λ i. Goes c snap most n around (record n { tasks = ts }) (outside k u o i)))
         served (Ok x) said = record {
           history = heard_of (Said text letters);
@@ -179,7 +179,7 @@ module _ (c : Cast) (snap : Snapper) (most : ℕ) (n : Node) (p : ℕ) (line : L
         }
         served (Err why) said = tt
 
-        pub served-stops : (r : Result (Unit {0}) Why) → Says r late t u
+        pub served-stops : (r : Result (Unit {0}) Why) → WritesText r late t u
             → IfErr r (λ why. HeardBy heard service (λ i. StopsWith c snap most n around (stop_of why) (outside k u o i)))
         served-stops (Ok x) said = tt
         served-stops (Err why) said = record {

@@ -1,2 +1,2 @@
 -- What becomes of a running node in a part of its run, in the words of the crates below, passed on.
-pub use Rattle.node_receiving.specs.Taking.{GoesOnTo, HasDiskCause, HasNode, Says, StopsSo, at, outside}
+pub use Rattle.node_receiving.specs.Taking.{GoesOnTo, HasDiskCause, HasNode, WritesText, StopsSo, at, outside}

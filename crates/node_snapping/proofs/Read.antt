@@ -5,7 +5,7 @@ use Rattle.std.proofs.lemmas.List.{take_at}
 use Rattle.sha2.specs.Sha256.{sha256}
 use Rattle.journal_defs.specs.Entries.{Entry}
 use Rattle.journal_defs.specs.Journals.{closed_gate, up_to_gate}
-use Rattle.journal_defs.specs.Crashes.{Stands}
+use Rattle.journal_defs.specs.Crashes.{Survives}
 use Rattle.journal_disk.specs.Disks.{HasLength, HasRest, LeavesOnly, OnlyReads}
 use Rattle.journal_disk.proofs.Moments.{weaker}
 use Rattle.journal_rp.specs.Stages.{gate_of, len_of}
@@ -93,7 +93,7 @@ module _ {D : Type 0} (seen : D → Option (List ℕ)) (may_leave : D → List �
         → StopsSo seen may_leave moment left_since c snap most f n x old why y new
     stops-reading x y why ends = record {
       stop = record { last = ends.last; stops = ends.stops; goes = ends.goes; leaves = leaves-as-before ends.goes.answers };
-      stands = if-reported (seen old) (λ some. subst (λ (es : List Entry). Stands f.head es (may_leave new)) (sym ends.keeps)
+      stands = if-reported (seen old) (λ some. subst (λ (es : List Entry). Survives f.head es (may_leave new)) (sym ends.keeps)
           (rest-stands (seen new) (may_leave new) f.head n.kept n.gate
           (rests-as-before f.head n.kept n.gate (reported (seen old) rests some))));
     }

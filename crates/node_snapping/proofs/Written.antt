@@ -17,7 +17,7 @@ use Rattle.node_traces.specs.Went.{Went}
 use Rattle.node_traces.proofs.Going.{parts_go_on}
 use Rattle.node_serving.specs.Hosts.{AreCountsOf, AreHosts, Counts, Hosts, IsJournalOf, IsNode, Running, cast_in}
 use Rattle.node_serving.specs.Stops.{stop as stop_of, Stop as Why, stop_of_fault}
-use Rattle.node_serving.specs.Taking.{GoesOnTo, Says, StopsSo, at, outside}
+use Rattle.node_serving.specs.Taking.{GoesOnTo, WritesText, StopsSo, at, outside}
 use Rattle.node_serving.proofs.Handed.{Ends, at-so, ends-after, forgets, is-now, says-on, says-stops, sound-on}
 use Rattle.node_snapping.specs.Snapping.{HasNoLine}
 use Rattle.node_snapping.proofs.Marked.{marking, marks-on, marks-stops}
@@ -74,7 +74,7 @@ module _ {D : Type 0} (seen : D → Option (List ℕ)) (may_leave : D → List �
         (marks-on c snap most n ts (outside l s o h) made.0)
 
     -- it is not written
-    pub not-written : (T : Type 0) (why : Why) (t : SinkSeen) → Says (let w : Result T Why = Err why in w) line s t
+    pub not-written : (T : Type 0) (why : Why) (t : SinkSeen) → WritesText (let w : Result T Why = Err why in w) line s t
         → StopsSo seen may_leave moment left_since c snap most f n (outside l s o h) old (stop_of why) (outside l t o h) new
     not-written T why t said = stops-asked t (stop_of why)
         (ends-after c snap most asked (at n (Say line ∷ ts)) (outside l s o h) (outside l s o h) (outside l t o h) (stop_of why) n.kept says-it

@@ -13,7 +13,7 @@ use Rattle.sealing_laws.specs.Running.{stop as stop_of, Stop as Why}
 use Rattle.sealing_laws.specs.Running as whys
 use Rattle.node_taking.specs.Taking.{outside}
 use Rattle.node_taking.specs.Keeping.{at}
-use Rattle.node_taking.specs.Telling.{Says}
+use Rattle.node_taking.specs.Telling.{WritesText}
 use Rattle.node_taking.proofs.Machine.{answers}
 use Rattle.node_taking.proofs.Lines.{said-so, say-failed, says-does}
 
@@ -50,7 +50,7 @@ says-on c snap most n text ts l s t o h wrote =
     (says-does c most n text ts Done l s t o h wrote)
 
 pub says-stops : (T : Type 0) (why : Why) (c : Cast) (snap : Snapper) (most : ℕ) (n : Node) (text : List ℕ) (ts : List Task) (l : LinkSeen)
-    (s t : SinkSeen) (o : SourceSeen) (h : List Asked) → Says (let r : Result T Why = Err why in r) text s t
+    (s t : SinkSeen) (o : SourceSeen) (h : List Asked) → WritesText (let r : Result T Why = Err why in r) text s t
     → Ends c snap most (at n (Say text ∷ ts)) (outside l s o h) (stop_of why) (outside l t o h) n.kept
 says-stops T whys.NoMemory c snap most n text ts l s t o h same =
     subst (λ (z : SinkSeen). Ends c snap most (at n (Say text ∷ ts)) (outside l s o h) NoMemory (outside l z o h) n.kept) same

@@ -20,7 +20,7 @@ use Rattle.sealing_laws.specs.Running.{AreHosts, IsNode, Running, cast_in, stop 
 use Rattle.sealing_laws.specs.Service.{IsAbove, note}
 use Rattle.node_taking.specs.Asking.{left_to_ask}
 use Rattle.node_taking.specs.Taking.{GoesOnTo, HasNode, StopsSo, outside}
-use Rattle.node_taking.specs.Telling.{Says}
+use Rattle.node_taking.specs.Telling.{WritesText}
 use Rattle.node_taking.specs.Turns.{HasHosts}
 use Rattle.node_taking.proofs.Ends.{says-on, says-stops}
 use Rattle.node_taking.proofs.Lines.{asked-of, names-nobody, names-one}
@@ -80,7 +80,7 @@ module _ {D V : Type 0} (seen : D → Option (List ℕ)) (may_leave : D → List
   }
 
   pub says-to-stop : (T : Type 0) (why : Why) (r : Running) (x : Around D V) (text : List ℕ) (us : List Task) (t : SinkSeen)
-      → Says (let w : Result T Why = Err why in w) text x.sink t
+      → WritesText (let w : Result T Why = Err why in w) text x.sink t
       → LeadsToStop seen may_leave moment left_since heard r x (Say text ∷ us) (stop_of why) (record x { sink = t })
   says-to-stop T why r x text us t said = λ snap most f source h n ts has is. record {
     history = h;

@@ -6,7 +6,7 @@ use Rattle.std.proofs.lemmas.List.{append-nil}
 use Rattle.byte_defs.specs.Fields.{four_bytes}
 use Rattle.journal_defs.specs.Entries.{Event, Entry, IsEntry, entry_bytes}
 use Rattle.journal_defs.specs.Journals.{behind_gate, record_bytes}
-use Rattle.journal_defs.specs.Crashes.{IsWithOrWithout, Stands, staged}
+use Rattle.journal_defs.specs.Crashes.{IsWithOrWithout, Survives, staged}
 use Rattle.journal_disk.specs.Disks.{HasLength, HasRest, LeavesOnly, StaysUntold}
 use Rattle.journal_disk.proofs.Moments.{weaker}
 use Rattle.journal_rp.specs.declared.journal.Journal.{Journal}
@@ -147,7 +147,7 @@ module _ {D : Type 0} (seen : D → Option (List ℕ)) (may_leave : D → List �
 
   abbrev StandsStill : Type 0
   StandsStill = (head : List ℕ) (es : List Entry) (d : Entry) → HasRest (seen old) (may_leave old) head es (gate_of journal) → IsEntry d
-      → bytes ≡ staged d → Stands head es (may_leave new)
+      → bytes ≡ staged d → Survives head es (may_leave new)
 
   disk-failed : (over → ⊥) → AnyMoment → StandsStill → StopsSo seen may_leave moment left_since c snap most f (at n (Take p e ∷ ts)) x old DiskFailed x new
   disk-failed fits any stands =
@@ -158,7 +158,7 @@ module _ {D : Type 0} (seen : D → Option (List ℕ)) (may_leave : D → List �
       stops-after seen may_leave moment left_since only_now c snap most f (at n (Take p e ∷ ts)) m x x x old old new DiskFailed (steps-on fits)
       (record {
         stop = record { last = last; stops = ends.0; goes = goes; leaves = appending goes.answers any };
-        stands = if-reported (seen old) (λ some. subst (λ (es : List Entry). Stands f.head es (may_leave new)) (sym ends.1)
+        stands = if-reported (seen old) (λ some. subst (λ (es : List Entry). Survives f.head es (may_leave new)) (sym ends.1)
             (stands f.head n.kept (entry_for c (n.now p) e) (rest-at some) turn.entry turn.staged));
       })
 

@@ -6,7 +6,7 @@ use Rattle.std.proofs.lemmas.List.{append-nil}
 use Rattle.journal_defs.specs.Entries.{Event}
 use Rattle.node_defs.specs.Casts.{Cast, outcome_of}
 use Rattle.node_defs.specs.Lines.{NoMemory, WriteFailed}
-use Rattle.node_defs.specs.Nodes.{Node, Task, Flush, Leaving, Sends, Tells, Answer, Done, Failed, Snapper, answered, asks, leaving_of, run}
+use Rattle.node_defs.specs.Nodes.{Node, Task, Flush, Leaving, Sends, Notes, Answer, Done, Failed, Snapper, answered, asks, leaving_of, run}
 use Rattle.node_traces.specs.Ways.{Through}
 use Rattle.node_traces.specs.Outside.{LinkSeen, LinkAnswered, SinkSeen, SinkAnswered, SinkWrote, SinkFailed, SourceSeen, SourceAnswered}
 use Rattle.node_traces.specs.Service.{Asked, hears}
@@ -18,7 +18,7 @@ use Rattle.sealing_laws.specs.Running.{stop as stop_of, Stop as Why}
 use Rattle.sealing_laws.specs.Running as whys
 use Rattle.node_taking.specs.Taking.{outside}
 use Rattle.node_taking.specs.Keeping.{at, grown, letting}
-use Rattle.node_taking.specs.Telling.{Tells as Reported, TellsTurn}
+use Rattle.node_taking.specs.Telling.{WasLetOut as Reported, TurnWasLetOut}
 use Rattle.node_taking.proofs.Machine.{answers}
 use Rattle.node_taking.proofs.Lines.{flush-failed, flushed-so, flushes-does, with_lines}
 use Rattle.node_taking.proofs.Ends.{Ends, ends-after, forgets}
@@ -29,7 +29,7 @@ sink-still c [] [] s each = refl
 sink-still c [] (a ∷ ws) s each = absurd each
 sink-still c (l ∷ ls) [] s each = absurd each
 sink-still c (Sends p q frame ∷ ls) (a ∷ ws) s each = (s, refl, sink-still c ls ws s each.1)
-sink-still c (Tells p note ∷ ls) (a ∷ ws) s each = (s, refl, sink-still c ls ws s each.1)
+sink-still c (Notes p note ∷ ls) (a ∷ ws) s each = (s, refl, sink-still c ls ws s each.1)
 
 source-still : (c : Cast) (most : ℕ) (ls : List Leaving) (ws : List Answer) (o : SourceSeen) → AllZip Fits ls ws
     → SourceAnswered most o (asked c ls ws) o
@@ -38,7 +38,7 @@ source-still c most [] [] o each = refl
 source-still c most [] (a ∷ ws) o each = absurd each
 source-still c most (l ∷ ls) [] o each = absurd each
 source-still c most (Sends p q frame ∷ ls) (a ∷ ws) o each = (o, refl, source-still c most ls ws o each.1)
-source-still c most (Tells p note ∷ ls) (a ∷ ws) o each = (o, refl, source-still c most ls ws o each.1)
+source-still c most (Notes p note ∷ ls) (a ∷ ws) o each = (o, refl, source-still c most ls ws o each.1)
 
 -- the first of it goes out
 lets-first : (c : Cast) (snap : Snapper) (most : ℕ) (n k : Node) (first others : List Leaving) (ws : List Answer) (l m : LinkSeen) (s : SinkSeen)
@@ -117,7 +117,7 @@ module _ (c : Cast) (snap : Snapper) (most : ℕ) (n : Node) (p : ℕ) (e : Even
       (sym law.run_is))
       (forgets c snap most m (outside l s o g) refl)
 
-  pub tells-stops : (T : Type 0) (why : Why) → TellsTurn (let r : Result T Why = Err why in r) c (grown c n p e).now out k l h g s t
+  pub tells-stops : (T : Type 0) (why : Why) → TurnWasLetOut (let r : Result T Why = Err why in r) c (grown c n p e).now out k l h g s t
       → Ends c snap most (letting c n p e ts) (outside k s o h) (stop_of why) (outside l t o g) (grown c n p e).kept
   tells-stops T whys.NoMemory so =
       subst (λ (z : SinkSeen). Ends c snap most (letting c n p e ts) (outside k s o h) NoMemory (outside l z o g) (grown c n p e).kept) so.1

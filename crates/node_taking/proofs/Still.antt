@@ -2,7 +2,7 @@
 use Rattle.std.proofs.Common.{◌≡◌, inl, ℕ, false, true≢false, List, [], Option, None, Some, refl, sym, subst, arith}
 use Rattle.std.specs.Prelude.{IfSome, IsSome}
 use Rattle.journal_defs.specs.Entries.{Entry}
-use Rattle.journal_defs.specs.Crashes.{IsAtRest, IsImageOf, Stands}
+use Rattle.journal_defs.specs.Crashes.{IsAtRest, IsImageOf, Survives}
 use Rattle.journal_defs.proofs.Crashing.{at_rest_is_image}
 use Rattle.journal_disk.specs.Disks.{HasRest, LeavesOnly}
 use Rattle.node_defs.specs.Casts.{Cast}
@@ -37,7 +37,7 @@ at-rest seen may_leave head es gate is image left =
     subst (λ (b : List ℕ). IsImageOf head b es) (sym (is.only image left)) (at_rest_is_image head es is.file is.each is.rest)
 
 pub rest-stands : (seen : Option (List ℕ)) (may_leave : List ℕ → Type 0) (head : List ℕ) (es : List Entry) (gate : ℕ)
-    → HasRest seen may_leave head es gate → Stands head es may_leave
+    → HasRest seen may_leave head es gate → Survives head es may_leave
 rest-stands seen may_leave head es gate is = record {
   each = is.each;
   all = inl (λ image left. subst (λ b. IsAtRest head es b) (sym (is.only image left)) is.rest);
@@ -86,7 +86,7 @@ module _ {D : Type 0} (seen : D → Option (List ℕ)) (may_leave : D → List �
       goes = goes;
       leaves = nothing-new n d goes.answers opened rests;
     };
-    stands = if-reported (seen d) (λ some. subst (λ (es : List Entry). Stands f.head es (may_leave d)) (sym kept)
+    stands = if-reported (seen d) (λ some. subst (λ (es : List Entry). Survives f.head es (may_leave d)) (sym kept)
         (rest-stands (seen d) (may_leave d) f.head n.kept n.gate (reported (seen d) rests some)));
   }
 

@@ -20,7 +20,7 @@ use Rattle.node_traces.proofs.Went.{went_on}
 use Rattle.sealing_laws.specs.Running.{Running, AreCountsOf, AreHosts, AreKeyed, IsJournalOf, IsNode, cast_in}
 use Rattle.node_taking.specs.Taking.{outside, GoesOnTo, StopsSo}
 use Rattle.node_taking.specs.Keeping.{at, grown, letting, Keeps}
-use Rattle.node_taking.specs.Telling.{Tells}
+use Rattle.node_taking.specs.Telling.{WasLetOut}
 use Rattle.node_taking.proofs.Machine.{answers, at-so, refused-so, steps-does}
 use Rattle.node_taking.proofs.Still.{still, stops-after, stops-still, Rests}
 use Rattle.node_taking.proofs.Ends.{Ends, forgets, says-on}
@@ -117,7 +117,7 @@ module _ {D : Type 0} (seen : D → Option (List ℕ)) (may_leave : D → List �
       pub taken-on : (r' : Running) (us : List Task) → us ≡ others → cast_in r' ≡ c → AreHosts c r'.kit.now (grown c n p e).now None r'.hosts
           → Keeps seen may_leave moment left_since c snap most f n p e ts (outside k s o h) old new r'.journal
           → AreCountsOf f.begins (grown c n p e) r'.counts
-          → Tells c (grown c n p e).now (leaving_of p (outcome_of c (n.now p) e)) k l h g (SinkWrote s t)
+          → WasLetOut c (grown c n p e).now (leaving_of p (outcome_of c (n.now p) e)) k l h g (SinkWrote s t)
           → GoesOnTo seen may_leave moment left_since c snap most f n (outside k s o h) old us (outside l t o g) new r'
       taken-on r' us left same hosts keeps counts tells =
           let went = went_on seen moment left_since c snap most f n (letting c n p e ts) (at (grown c n p e) others) (outside k s o h)

@@ -1,6 +1,6 @@
 -- What becomes of a running node in a part of its run, with its journal's disk before and after.
 use Rattle.std.specs.Prelude.{◌≡◌, ℕ, List, Option, IfSome}
-use Rattle.journal_defs.specs.Crashes.{Stands}
+use Rattle.journal_defs.specs.Crashes.{Survives}
 use Rattle.node_defs.specs.Casts.{Cast}
 use Rattle.node_defs.specs.Lines.{Stop}
 use Rattle.node_defs.specs.Nodes.{Node, Task, Snapper}
@@ -34,4 +34,4 @@ pub record StopsSo {D : Type 0} (seen : D → Option (List ℕ)) (may_leave : D 
     (left_since : D → ℕ → List ℕ → Type 0) (c : Cast) (snap : Snapper) (most : ℕ) (f : Outset) (n : Node) (x : Outside) (old : D) (why : Stop)
     (y : Outside) (new : D) : Type 0 where
   pub stop : WentToStop seen moment left_since c snap most f n x old why y new
-  pub stands : IfSome (seen old) (λ file. Stands f.head stop.last.kept (may_leave new))
+  pub stands : IfSome (seen old) (λ file. Survives f.head stop.last.kept (may_leave new))

@@ -10,22 +10,22 @@ use Rattle.sealing_laws.specs.Letters.{LetsTurnOut}
 use Rattle.sealing_laws.specs.Running.{Stop, NoMemory, WriteFailed}
 
 -- the text was written; or the output failed, which took a front of it; or there was no memory for it
-abbrev pub Says : {T : Type 0} → Result T Stop → List ℕ → SinkSeen → SinkSeen → Type 0
-Says (Ok x) text old new = SinkWrote old new text
-Says (Err WriteFailed) text old new = SinkFailed old new text
-Says (Err NoMemory) text old new = old ≡ new
-Says (Err _) text old new = ⊥
+abbrev pub WritesText : {T : Type 0} → Result T Stop → List ℕ → SinkSeen → SinkSeen → Type 0
+WritesText (Ok x) text old new = SinkWrote old new text
+WritesText (Err WriteFailed) text old new = SinkFailed old new text
+WritesText (Err NoMemory) text old new = old ≡ new
+WritesText (Err _) text old new = ⊥
 
 -- a turn was let out, with this text; and the text was written, or the output failed, which took a front of it
-pub record Tells (c : Cast) (at : ℕ → Process) (ls : List Leaving) (k l : LinkSeen) (h i : List Asked) (Wrote : List ℕ → Type 0) : Type 0 where
+pub record WasLetOut (c : Cast) (at : ℕ → Process) (ls : List Leaving) (k l : LinkSeen) (h i : List Asked) (Wrote : List ℕ → Type 0) : Type 0 where
   pub text : List ℕ
   pub out : LetsTurnOut c at ls k l h i [] text
   pub wrote : Wrote text
 
 -- all of it was let out and written; or the output failed; or memory ran out, after the first of it
-abbrev pub TellsTurn : {T : Type 0} → Result T Stop → Cast → (ℕ → Process) → List Leaving → LinkSeen → LinkSeen → List Asked → List Asked
+abbrev pub TurnWasLetOut : {T : Type 0} → Result T Stop → Cast → (ℕ → Process) → List Leaving → LinkSeen → LinkSeen → List Asked → List Asked
     → SinkSeen → SinkSeen → Type 0
-TellsTurn (Ok x) c at ls k l h i old new = Tells c at ls k l h i (SinkWrote old new)
-TellsTurn (Err WriteFailed) c at ls k l h i old new = Tells c at ls k l h i (SinkFailed old new)
-TellsTurn (Err NoMemory) c at ls k l h i old new = HasBegun c at ls k h l i × (old ≡ new)
-TellsTurn (Err _) c at ls k l h i old new = ⊥
+TurnWasLetOut (Ok x) c at ls k l h i old new = WasLetOut c at ls k l h i (SinkWrote old new)
+TurnWasLetOut (Err WriteFailed) c at ls k l h i old new = WasLetOut c at ls k l h i (SinkFailed old new)
+TurnWasLetOut (Err NoMemory) c at ls k l h i old new = HasBegun c at ls k h l i × (old ≡ new)
+TurnWasLetOut (Err _) c at ls k l h i old new = ⊥

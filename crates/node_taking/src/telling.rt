@@ -13,7 +13,7 @@ ghost use Rattle.node_traces.specs.Service.{Asked, HeardBy};
 ghost use Rattle.sealing_laws.specs.Running.{IsHosted, IsOutcome, fault as fault_of};
 ghost use Rattle.sealing_laws.specs.Letters.{IsLast, IsSealable, letters_in};
 ghost use Rattle.node_taking.specs.Taking.{HasDiskCause};
-ghost use Rattle.node_taking.specs.Telling.{Says, TellsTurn};
+ghost use Rattle.node_taking.specs.Telling.{WritesText, TurnWasLetOut};
 
 use crate::stepping::Away;
 use journal_rp::Synced;
@@ -26,7 +26,7 @@ use std::alloc::Global;
 /// # Errors
 /// `WriteFailed`; a front of the text was written then.
 pub fn say<K: Sink>(output: &mut K, text: &[u8]) -> Result<(), Stop>
-    ensures { Says result text.now (sink_seen K.written K.faults output.old) (sink_seen K.written K.faults output.new) }
+    ensures { WritesText result text.now (sink_seen K.written K.faults output.old) (sink_seen K.written K.faults output.new) }
 {
     match write_all(output, text) {
         Ok(()) => Ok(()),
@@ -44,7 +44,7 @@ pub(crate) fn say_refused<K: Sink>(
     fault: EventFault,
     output: &mut K,
 ) -> Result<(), Stop>
-    ensures { Says result (refused_line me (fault_of fault)) (sink_seen K.written K.faults output.old)
+    ensures { WritesText result (refused_line me (fault_of fault)) (sink_seen K.written K.faults output.old)
         (sink_seen K.written K.faults output.new) }
 {
     let mut line = Vec::new(alloc);
@@ -62,7 +62,7 @@ pub(crate) fn say_expel<K: Sink>(
     other: Pid,
     output: &mut K,
 ) -> Result<(), Stop>
-    ensures { Says result (expel_line me other) (sink_seen K.written K.faults output.old) (sink_seen K.written K.faults output.new) }
+    ensures { WritesText result (expel_line me other) (sink_seen K.written K.faults output.old) (sink_seen K.written K.faults output.new) }
 {
     let mut line = Vec::new(alloc);
     push_expel(&mut line, me, other)?;
@@ -91,7 +91,7 @@ pub(crate) fn tell<D: Disk, L: Link, K: Sink, V: Service>(
     requires room { 61054 ≤ length room.old }
     ensures reported { (version : Version) (o : Outcome) (at : ℕ → Process) (h : List Asked) → IsOutcome o (outcome_of away.now.turn)
         → V.heard service.old h → IsHosted (cast_of kit.now version) me (at me) (process_of away.now.turn)
-        → HeardBy V.heard service.new (λ i. TellsTurn result (cast_of kit.now version) at (leaving_of me o)
+        → HeardBy V.heard service.new (λ i. TurnWasLetOut result (cast_of kit.now version) at (leaving_of me o)
         (link_seen L.sent L.coming L.faults link.old) (link_seen L.sent L.coming L.faults link.new) h i
         (sink_seen K.written K.faults output.old) (sink_seen K.written K.faults output.new)) }
     ensures cause { HasDiskCause (D.faults disk.now) (D.faults disk.now) result }

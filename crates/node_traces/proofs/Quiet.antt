@@ -4,7 +4,7 @@ use Rattle.std.specs.Prelude.{Option}
 use Rattle.std.proofs.lemmas.List.{append-nil}
 use Rattle.node_defs.specs.Casts.{Cast}
 use Rattle.node_defs.specs.Lines.{Stop, NoMemory}
-use Rattle.node_defs.specs.Nodes.{Node, Call, Binds, Writes, Serves, Finishes, SendsTo, TellsOf, Steps, Appends, Asks, ReceivesOn, Words, Marks, ReadsLine, Rests, Snapper, Unremembered, call_of, answered, unless_stopped}
+use Rattle.node_defs.specs.Nodes.{Node, Call, Binds, Writes, Serves, Finishes, SendsTo, NotesOf, Steps, Appends, Asks, ReceivesOn, Words, Marks, ReadsLine, Rests, Snapper, Unremembered, call_of, answered, unless_stopped}
 use Rattle.node_traces.specs.Outside.{LinkSeen, LinkStep, SinkSeen, SinkStep, SourceSeen, SourceStep}
 use Rattle.node_traces.specs.Goes.{Outside, Does}
 
@@ -15,7 +15,7 @@ nothing-happens most (Writes text) k s o = (refl, refl, refl)
 nothing-happens most Serves k s o = (refl, refl, refl)
 nothing-happens most Finishes k s o = (refl, refl, refl)
 nothing-happens most (SendsTo port datagram) k s o = (refl, refl, refl)
-nothing-happens most (TellsOf p note) k s o = (refl, refl, refl)
+nothing-happens most (NotesOf p note) k s o = (refl, refl, refl)
 nothing-happens most (Steps p e) k s o = (refl, refl, refl)
 nothing-happens most (Appends entry) k s o = (refl, refl, refl)
 nothing-happens most (Asks p e notes above) k s o = (refl, refl, refl)

@@ -2,7 +2,7 @@
 --
 -- It is asked at four calls, and each shows it hosted processes of the node's cast as they are then.
 --   Serves                  all of them, as the node begins
---   TellsOf P N             process P, whose turn let out the note
+--   NotesOf P N             process P, whose turn let out the note
 --   Asks P E NS Q           process P, after its turn
 --   Words P L               process P, which the line asks
 -- A call for which memory ran out leaves nothing in its history: the node has stopped then.
@@ -10,7 +10,7 @@ use Rattle.std.specs.Prelude.{ℕ, List, [], ◌∷◌, ◌++◌, map, flat_map,
 use Rattle.std.specs.Option.{option_map_or}
 use Rattle.group_defs.specs.Process.{Process}
 use Rattle.node_defs.specs.Casts.{Cast}
-use Rattle.node_defs.specs.Nodes.{Node, Call, Serves, TellsOf, Asks, Words, Answer, Unremembered, Snapper, call_of, answered}
+use Rattle.node_defs.specs.Nodes.{Node, Call, Serves, NotesOf, Asks, Words, Answer, Unremembered, Snapper, call_of, answered}
 
 -- one call of it: the cast of the processes that it was shown, those processes, what it was asked, and what it answered
 pub record Asked : Type 0 where
@@ -26,7 +26,7 @@ one_asked c shown call answer = record { cast = c; shown = shown; call = call; a
 -- which of the processes, which are these now, the call shows to the service; none, where it is not one of the service's
 abbrev pub shows : Cast → (ℕ → Process) → Call → Option (List Process)
 shows c now Serves = Some (map now c.hosted)
-shows c now (TellsOf p note) = Some (now p ∷ [])
+shows c now (NotesOf p note) = Some (now p ∷ [])
 shows c now (Asks p e notes above) = Some (now p ∷ [])
 shows c now (Words p line) = Some (now p ∷ [])
 shows c now _ = None

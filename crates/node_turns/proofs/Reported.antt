@@ -9,12 +9,12 @@ use Rattle.member_events.specs.declared.events.Note.{Note}
 use Rattle.node_service.specs.Lines.{note}
 use Rattle.node_defs.specs.Casts.{Cast}
 use Rattle.node_defs.specs.Lines.{note_line}
-use Rattle.node_defs.specs.Nodes.{Leaving, Tells, TellsOf, Answer, Said}
+use Rattle.node_defs.specs.Nodes.{Leaving, Notes, NotesOf, Answer, Said}
 use Rattle.node_traces.specs.Ways.{Through}
 use Rattle.node_traces.specs.Outside.{LinkSeen, LinkStep, LinkAnswered}
 use Rattle.node_traces.specs.Service.{Asked, HeardBy, one_asked}
 use Rattle.letting_laws.specs.Letting.{Fits, asked, reported_by, failed_by, edge, LetOut, HasBegun}
-use Rattle.node_service.specs.Answers.{Tells as TellsMore}
+use Rattle.node_service.specs.Answers.{HasAnswered}
 use Rattle.node_turns.specs.Letters.{tells_of, TellsNotes}
 use Rattle.letting_laws.proofs.Joined.{let-both, begun-after, begun-front, begun-with}
 
@@ -24,7 +24,7 @@ use Rattle.letting_laws.proofs.Joined.{let-both, begun-after, begun-front, begun
 pub reported-one : (c : Cast) (at : ℕ → Process) (me : ℕ) (n : Note) (link : LinkSeen) (old pushed new text : List ℕ) (h : List Asked)
     → pushed ≡ old ++ note_line me (note n) → new ≡ pushed ++ text
     → LetOut c at (tells_of me (n ∷ [])) (edge link old [] h)
-    (edge link new [] (h ++ one_asked c (at me ∷ []) (TellsOf me (note n)) (Said text [])))
+    (edge link new [] (h ++ one_asked c (at me ∷ []) (NotesOf me (note n)) (Said text [])))
 unfolding Through
 reported-one c at me n link old pushed new text h line more = record {
   answers = Said text [] ∷ [];
@@ -40,10 +40,10 @@ reported-one c at me n link old pushed new text h line more = record {
 pub reported-by : {V : Type 0} (heard : V → List Asked → Type 0) (service : V) (c : Cast) (at : ℕ → Process) (me : ℕ) (n : Note)
     (link : LinkSeen)
     (old pushed new : List ℕ) (h : List Asked) → pushed ≡ old ++ note_line me (note n)
-    → TellsMore heard service h c (at me ∷ []) (TellsOf me (note n)) pushed new
+    → HasAnswered heard service h c (at me ∷ []) (NotesOf me (note n)) pushed new
     → HeardBy heard service (λ i. LetOut c at (tells_of me (n ∷ [])) (edge link old [] h) (edge link new [] i))
 reported-by heard service c at me n link old pushed new h line tells = record {
-  history = h ++ one_asked c (at me ∷ []) (TellsOf me (note n)) (Said tells.text []);
+  history = h ++ one_asked c (at me ∷ []) (NotesOf me (note n)) (Said tells.text []);
   has = tells.has;
   holds = reported-one c at me n link old pushed new tells.text h line tells.reported;
 }
@@ -69,7 +69,7 @@ untold-by heard service c at ls link h has = record { history = h; has = has; ho
 -- ---- one note after the other
 
 tells-append : (me : ℕ) (xs ys : List Note) → tells_of me (xs ++ ys) ≡ tells_of me xs ++ tells_of me ys
-tells-append me xs ys = map-append (λ (n : Note). Tells me (note n)) xs ys
+tells-append me xs ys = map-append (λ (n : Note). Notes me (note n)) xs ys
 
 one-note : (ns : List Note) (i : ℕ) (n : Note) → i < length ns → n ≡ get_or ns i n → take (i + 1) ns ≡ take i ns ++ n ∷ []
 one-note ns i n lt is = take_more ns i n lt ∙ ap (λ (m : Note). take i ns ++ m ∷ []) (sym is)
@@ -126,7 +126,7 @@ notes-ended heard service c at me ns i link old new h past all = record {
 -- ---- whatever the link is
 
 -- a note does nothing to it
-note-still : (p : ℕ) (n : defs.Note) (a : Answer) (l : LinkSeen) → Fits (Tells p n) a → LinkStep l (TellsOf p n, a) l
+note-still : (p : ℕ) (n : defs.Note) (a : Answer) (l : LinkSeen) → Fits (Notes p n) a → LinkStep l (NotesOf p n, a) l
 note-still p n (Said text sends) l fits = refl
 note-still p n _ l fits = absurd fits
 

@@ -12,7 +12,7 @@ use Rattle.member_events.specs.declared.events.Sending.{Sending}
 use Rattle.member_events.specs.declared.events.Note.{Note}
 use Rattle.node_service.specs.Lines.{frame_to, frames_to, IsOutcome, note}
 use Rattle.node_defs.specs.Casts.{Cast, letters_of}
-use Rattle.node_defs.specs.Nodes.{Leaving, Tells, leaving_of}
+use Rattle.node_defs.specs.Nodes.{Leaving, Notes, leaving_of}
 use Rattle.node_traces.specs.Outside.{LinkSeen}
 use Rattle.node_traces.specs.Service.{Asked, HeardBy}
 use Rattle.letting_laws.specs.Letting.{reported_by, edge, LetOut, HasBegun}
@@ -43,16 +43,16 @@ pub letters-are : (o : defs.Outcome) (r : Outcome) → IsOutcome o r → letters
 letters-are o r is = all-sendings o.sends ∙ ap (flat_map letters_to) is.sends
     ∙ flat_map-map letters_to frame_to r.sends.items
 
-notes-are : (me : ℕ) (ns : List Note) → map (Tells me) (map note ns) ≡ tells_of me ns
+notes-are : (me : ℕ) (ns : List Note) → map (Notes me) (map note ns) ≡ tells_of me ns
 notes-are me [] = refl
-notes-are me (n ∷ ns) = ap (λ (ls : List Leaving). Tells me (note n) ∷ ls) (notes-are me ns)
+notes-are me (n ∷ ns) = ap (λ (ls : List Leaving). Notes me (note n) ∷ ls) (notes-are me ns)
 
 -- what goes out of a turn
 pub leaving-is : (me : ℕ) (o : defs.Outcome) (r : Outcome) → IsOutcome o r
     → sends_of me (letters_in r.sends.items) ++ tells_of me r.notes.items ≡ leaving_of me o
 leaving-is me o r is =
     ap (λ (ls : List Leaving). ls ++ tells_of me r.notes.items) (ap (sends_of me) (sym (letters-are o r is)))
-    ∙ ap (λ (ls : List Leaving). sends_of me (letters_of o) ++ ls) (sym (notes-are me r.notes.items) ∙ ap (map (Tells me)) (sym is.reported))
+    ∙ ap (λ (ls : List Leaving). sends_of me (letters_of o) ++ ls) (sym (notes-are me r.notes.items) ∙ ap (map (Notes me)) (sym is.reported))
 
 -- ---- all of it
 

@@ -5,7 +5,7 @@ use Rattle.group_defs.specs.Process.{Process}
 use Rattle.member_events.specs.declared.events.Note.{Note}
 use Rattle.node_service.specs.Lines.{note}
 use Rattle.node_defs.specs.Casts.{Cast, pair_of}
-use Rattle.node_defs.specs.Nodes.{Leaving, Tells, Answer, Done, Failed}
+use Rattle.node_defs.specs.Nodes.{Leaving, Notes, Answer, Done, Failed}
 use Rattle.node_traces.specs.Outside.{LinkSeen}
 use Rattle.node_traces.specs.Service.{Asked}
 use Rattle.letting_laws.specs.Letting.{edge, LetOut}
@@ -14,7 +14,7 @@ pub use Rattle.node_service.specs.Answers.{letters_to, letters_in}
 
 -- the process lets these notes out
 abbrev pub tells_of : ℕ → List Note → List Leaving
-tells_of me notes = map (λ n. Tells me (note n)) notes
+tells_of me notes = map (λ n. Notes me (note n)) notes
 
 -- the letter can be sealed: the process shares a key with whom it goes to, and the frame has at most 61,000 bytes
 pub record IsSealable (kit : Kit) (me : ℕ) (letter : ℕ × List ℕ) : Type 0 where

@@ -7,7 +7,7 @@ use Rattle.group_defs.specs.Process.{Setting, Pool, Process}
 use Rattle.claim_index.specs.Statements.{report}
 use Rattle.claim_index.specs.Keys.{slot_key, same_slot_key}
 use Rattle.own_place.specs.declared.own.Own.{Own}
-use Rattle.own_place.specs.Owns.{HasDelivered, HasSigned, Tells}
+use Rattle.own_place.specs.Owns.{HasDelivered, HasSigned, IsOwnOf}
 use Rattle.own_place.specs.Marks.{IsSamePlace}
 
 module _ (own own' : Own) (same : IsSamePlace own own') where
@@ -24,7 +24,7 @@ module _ (own own' : Own) (same : IsSamePlace own own') where
     names = has.names ∙ sym same.names;
   }
 
-  pub same_tells : (s : Setting) (p : Process) (h : Pool) → Tells s p h own → Tells s p h own'
+  pub same_tells : (s : Setting) (p : Process) (h : Pool) → IsOwnOf s p h own → IsOwnOf s p h own'
   same_tells s p h tells = record {
     pool = tells.pool;
     number = tells.number ∙ sym same.number;

@@ -27,7 +27,7 @@ use Rattle.claim_index.specs.Keys.{slot_key, same_slot_key}
 use Rattle.claim_index.proofs.Keyed.{same_slot_key-is, is-same_slot_key, one_slot}
 use Rattle.own_place.specs.declared.own.Own.{Own}
 use Rattle.own_place.specs.Signed.{has_slot}
-use Rattle.own_place.specs.Owns.{HasSigned, Tells}
+use Rattle.own_place.specs.Owns.{HasSigned, IsOwnOf}
 use Rattle.own_place.specs.Noting.{is_end, ordered_messages, orders_after, ready_after, ComeNext, IsNoted}
 use Rattle.own_place.proofs.Next.{next-come}
 
@@ -165,8 +165,8 @@ module _ (s : Setting) (signer : Signer) (p : Process) (st : Statement) (before 
   }
 
   -- which is now in this pool
-  pub tells-now : (g h : Pool) (v : View) → Tells s p g before → g.view ≡ v → (signs s signer p st).pool ≡ h → IsNoted v st before after
-      → Tells s (signs s signer p st) h after
+  pub tells-now : (g h : Pool) (v : View) → IsOwnOf s p g before → g.view ≡ v → (signs s signer p st).pool ≡ h → IsNoted v st before after
+      → IsOwnOf s (signs s signer p st) h after
   tells-now g h v tells same at noted' =
       let noted : IsNoted p.pool.view st before after = subst (λ v. IsNoted v st before after)
       (sym (ap (λ (h : Pool). h.view) tells.pool ∙ same)) noted' in

@@ -24,7 +24,7 @@ pub record HasSigned (own : Own) (p : Process) : Type 0 where
   pub names : map (λ m. named m (messages (own_orders p))) p.pool.view.members ≡ own.orders.items
 
 -- the place is that of this process, whose pool this is, in this setting
-pub record Tells (s : Setting) (p : Process) (h : Pool) (own : Own) : Type 0 where
+pub record IsOwnOf (s : Setting) (p : Process) (h : Pool) (own : Own) : Type 0 where
   pub pool : p.pool ≡ h
   pub number : p.me ≡ own.me
   pub position : rank_of p.pool.view p.me ≡ own.position

@@ -8,7 +8,7 @@ ghost use Rattle.group_defs.specs.Certified as certified;
 ghost use Rattle.group_defs.specs.Due.{may_sign};
 ghost use Rattle.group_defs.specs.Signing.{Signer, signs};
 ghost use Rattle.claim_index.specs.Statements.{stmt, report};
-ghost use Rattle.own_place.specs.Owns.{Tells};
+ghost use Rattle.own_place.specs.Owns.{IsOwnOf};
 ghost use Rattle.own_place.specs.Signed.{has_slot};
 ghost use Rattle.own_place.specs.Noting as noting;
 
@@ -122,9 +122,9 @@ impl Own {
         ensures noted { noting.IsNoted view.now (stmt statement.now) self.old self.new }
 
         // Where a process may sign the statement, this is its place after it has, with the pool `h` that it holds then.
-        ensures tells { (s : Setting) (signer : Signer) (p : Process) (g h : Pool) → Tells s p g self.old → g.view ≡ view.now
+        ensures tells { (s : Setting) (signer : Signer) (p : Process) (g h : Pool) → IsOwnOf s p g self.old → g.view ≡ view.now
             → IsTrue (may_sign s p (stmt statement.now)) → (signs s signer p (stmt statement.now)).pool ≡ h
-            → Tells s (signs s signer p (stmt statement.now)) h self.new }
+            → IsOwnOf s (signs s signer p (stmt statement.now)) h self.new }
         ensures marked { self.new.signed.marked ≡ self.old.signed.marked }
         ensures left { self.old.signed.left ≤ self.new.signed.left + 1 }
     {

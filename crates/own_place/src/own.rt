@@ -6,7 +6,7 @@ use arrayvec::ArrayVec;
 use claim_index::{Pid, PidSet, Value};
 use std::mem;
 
-/// What a process has signed and delivered in its view, and who it is. `Tells` of the specs relates it to the process.
+/// What a process has signed and delivered in its view, and who it is. `IsOwnOf` of the specs relates it to the process.
 pub struct Own {
     /// The own number.
     pub me: Pid,

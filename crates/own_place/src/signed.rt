@@ -246,20 +246,6 @@ impl SignedSlots {
         self.first_unsigned(&Row::Inits, view)
     }
 
-    /// The least number of the sender's messages whose Echo is not signed in the view of this number; None exactly where all 1,024 are.
-    pub fn first_unsigned_echo(&self, view: u16, sender: Pid) -> Option<u16>
-        ensures { IsLeastBelow most_places (λ l. not (has_slot self.now (EchoAt view (message sender l)))) result }
-    {
-        self.first_unsigned(&Row::Echoes(sender), view)
-    }
-
-    /// The least place whose Place is not signed in the view of this number; None exactly where all 1,024 are.
-    pub fn first_unsigned_place(&self, view: u16) -> Option<u16>
-        ensures { IsLeastBelow most_places (λ k. not (has_slot self.now (PlaceAt view k))) result }
-    {
-        self.first_unsigned(&Row::Places, view)
-    }
-
     /// The least place whose Keep is not signed in the view of this number; None exactly where all 1,024 are.
     pub fn first_unsigned_keep(&self, view: u16) -> Option<u16>
         ensures { IsLeastBelow most_places (λ k. not (has_slot self.now (KeepAt view k))) result }

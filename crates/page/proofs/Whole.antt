@@ -2,7 +2,7 @@
 use Rattle.std.proofs.Common.{◌≡◌, ℕ, Bool, true, false, Option, Some, None, List, [], ◌++◌, length, Err, sym, ap, subst, ◌∙◌, inl, inr, arith}
 use Rattle.std.proofs.lemmas.List.{append-nil, take_all}
 use Rattle.std.specs.Io.KnownBytes.{Consumes, IsAtEnd}
-use Rattle.rp_base.specs.Streams.{Says}
+use Rattle.rp_base.specs.Streams.{WritesLine}
 use Rattle.replay_defs.specs.Reading.{schedule_of}
 use Rattle.story_defs.specs.Stories.{story_of}
 use Rattle.story_cli.specs.declared.commands.Command.{Command}
@@ -16,7 +16,7 @@ whole reported None input taken ended = absurd taken
 whole reported (Some rest) input taken ended = sym (taken ∙ ap (λ (t : List ℕ). input ++ t) ended ∙ append-nil input)
 
 -- what was said to a sink that held nothing is the line, or a prefix of it
-said : (line bytes : List ℕ) (before now : ℕ) → Says line (Some []) (Some bytes) before now → Line line bytes
+said : (line bytes : List ℕ) (before now : ℕ) → WritesLine line (Some []) (Some bytes) before now → Line line bytes
 said line bytes before now (inl all) = (length line, omega arith, all.0 ∙ sym (take_all (length line) line (omega arith)))
 said line bytes before now (inr part) = part.0
 

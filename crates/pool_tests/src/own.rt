@@ -105,18 +105,15 @@ fn the_first_unsigned_slot_of_a_row_is_found(rt: HostRuntime) -> Result<(), NoMe
     let mut signed = SignedSlots::new(rt.alloc());
     signed.reserve(2)?;
     signed.sign(&echo(1));
-    assert_eq!(rt; signed.first_unsigned_echo(4, pid(1)), Some(0));
+    assert_eq!(rt; signed.echoed_below(4, pid(1)), 0);
     signed.sign(&echo(0));
     for (view, sender, number) in [(4, 1, 2), (4, 2, 0), (5, 1, 0)] {
-        assert_eq!(rt; signed.first_unsigned_echo(view, pid(sender)), Some(number));
+        assert_eq!(rt; signed.echoed_below(view, pid(sender)), number);
     }
-    let others = [
-        signed.first_unsigned_place(4),
-        signed.first_unsigned_keep(4),
-        signed.first_unsigned_init(4),
-    ];
-    assert!(rt; others == [Some(0); 3]);
+    let others = [signed.first_unsigned_keep(4), signed.first_unsigned_init(4)];
+    assert_eq!(rt; signed.placed_below(4), 0);
+    assert!(rt; others == [Some(0); 2]);
     signed.clear();
-    assert_eq!(rt; signed.first_unsigned_echo(4, pid(1)), Some(0));
+    assert_eq!(rt; signed.echoed_below(4, pid(1)), 0);
     Ok(())
 }

@@ -13,15 +13,15 @@ use Rattle.chain_text_defs.specs.Chains.{Answer, kit_words, setting_of, stopped}
 use Rattle.chain_laws.specs.Chains.{IsInstalled}
 use Rattle.chain_laws.specs.Reported.{proofs_in}
 use Rattle.chain_laws.proofs.Agreeing.{chain_is_installed, chain_is_of_all}
-use Rattle.chain_laws.proofs.Reported.{Tells, one-more, tells-at}
+use Rattle.chain_laws.proofs.Reported.{ShowsViews, one-more, tells-at}
 use Rattle.proof_defs.specs.Starts.{start_in, started_at, started_chain_of, started_from, reported_from}
 use Rattle.proof_laws.specs.Starts.{IsQuotedFrom, Start, StartTellsViews, start_behind, start_of, views_from}
 
 module _ (s : Setting) where
-  reported-so : (n : ℕ) (v : View) (parts : List (List ℕ)) → Tells (reported_from s n v parts) (v ∷ views_shown s v (proofs_in parts))
+  reported-so : (n : ℕ) (v : View) (parts : List (List ℕ)) → ShowsViews (reported_from s n v parts) (v ∷ views_shown s v (proofs_in parts))
   reported-so n v parts = one-more v _ (views_shown s v (proofs_in parts)) (tells-at s n v parts)
 
-  started-tells : (n : ℕ) (parts : List (List ℕ)) → Tells (started_at s n parts) (views_from s (start_of s parts))
+  started-tells : (n : ℕ) (parts : List (List ℕ)) → ShowsViews (started_at s n parts) (views_from s (start_of s parts))
   unfolding started_at start_of
   started-tells n [] = reported-so n s.genesis []
   started-tells n (rest ∷ []) = reported-so n s.genesis (rest ∷ [])
@@ -34,7 +34,7 @@ module _ (s : Setting) where
           ] in let b : Start = elim o [
             | None ↦ record { view = s.genesis; lines = line ∷ next ∷ more }
             | Some v ↦ record { view = v; lines = next ∷ more }
-          ] in Tells a (views_from s b)
+          ] in ShowsViews a (views_from s b)
       of None = reported-so n s.genesis (line ∷ next ∷ more)
       of (Some v) = reported-so (n + 1) v (next ∷ more)
 

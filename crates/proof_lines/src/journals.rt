@@ -2,7 +2,7 @@
 ghost use Rattle.std.specs.Prelude.{◌≡◌, ◌∷◌, [], IfErr, IfOk, Ok};
 ghost use Rattle.kit_defs.specs.Kits.{IsKit};
 ghost use Rattle.audit_defs.specs.Audits.{Audited, audited};
-ghost use Rattle.audit_core.specs.Walks.{Tells};
+ghost use Rattle.audit_core.specs.Walks.{IsFaultOf};
 ghost use Rattle.proof_defs.specs.Lines.{proofs_text};
 ghost use Rattle.proof_lines.specs.Taken.{ChainTakes};
 
@@ -34,7 +34,7 @@ pub fn lines_in(
     requires kit { IsKit kit.now }
     ensures found { IfOk result (λ text. (a : Audited) × (audited kit.now (p ∷ []) journals.now ≡ Ok a)
         × (text.items ≡ proofs_text a) × ChainTakes a) }
-    ensures refused { IfErr result (λ fault. Tells fault (audited kit.now (p ∷ []) journals.now)) }
+    ensures refused { IfErr result (λ fault. IsFaultOf fault (audited kit.now (p ∷ []) journals.now)) }
 {
     let walk = match walk_all(alloc, kit, alone(p), journals) {
         Ok(walk) => walk,

@@ -2,7 +2,7 @@
 ghost use Rattle.std.specs.Prelude.{◌≡◌, ◌⊎◌, ℕ, List, codes};
 ghost use Rattle.std.specs.Io.KnownBytes.{Keeps};
 ghost use Rattle.rp_base.specs.Causes.{Rose};
-ghost use Rattle.rp_base.specs.Streams.{Says};
+ghost use Rattle.rp_base.specs.Streams.{WritesLine};
 ghost use Rattle.command_line.specs.Commands.{Ask};
 ghost use Rattle.store_asking.specs.Answers as answers;
 ghost use Rattle.store_asking.specs.Answers.{Answered, AnsweredInPart, AsksNothing, Refused};
@@ -25,7 +25,7 @@ pub(crate) fn run_ask<S: Source, K: Sink>(
     ensures steady { result ≡ 0 → (S.faults input.new ≡ S.faults input.old) × (K.faults output.new ≡ K.faults output.old) }
     ensures silent { result ≡ 1 → Keeps (K.written output.old) (K.written output.new) }
     ensures read { result ≡ 3 → Rose (S.faults input.old) (S.faults input.new) }
-    ensures read_line { result ≡ 3 → Says (codes "stop 3 read\n")
+    ensures read_line { result ≡ 3 → WritesLine (codes "stop 3 read\n")
         (K.written output.old) (K.written output.new) (K.faults output.old) (K.faults output.new) }
     ensures failed { result ≡ 4 → Rose (K.faults output.old) (K.faults output.new) }
     ensures part { (payload : List ℕ) → Asks words.now (Ask payload) → result ≡ 4

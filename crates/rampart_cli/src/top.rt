@@ -17,7 +17,7 @@ ghost use Rattle.node_defs.specs.Lives.{Found};
 ghost use Rattle.node_traces.specs.Seen.{link_seen, sink_seen, source_seen};
 ghost use Rattle.node_loop.specs.Ended.{HasEndedAlone, SaysLast};
 ghost use Rattle.node_loop.specs.Inputs.{TellInOrder, TellInOrderResuming, most_line_bytes};
-ghost use Rattle.rp_base.specs.Streams.{AppendsPrefix, Says};
+ghost use Rattle.rp_base.specs.Streams.{AppendsPrefix, WritesLine};
 ghost use Rattle.replay_words.specs.Answers.{Reported, ReportedInPart, Stopped, kit_of_order, schedule_of_number};
 ghost use Rattle.rampart_cli.specs.Hosts.{HasEndedWith, HasResumedAlone};
 ghost use Rattle.rampart_cli.specs.Reported.{AskTells};
@@ -135,13 +135,13 @@ pub fn rampart<S: Source, K: Sink, D: Disk, L: Link>(
     ensures words { (result ≡ 2) ↔ (¬ AskAny words.now) }
     ensures asked { result ≢ 2 → AskAny words.now }
     ensures unread { result ≡ 2 → input.new ≡ input.old }
-    ensures words_line { result ≡ 2 → Says (codes "stop 2 words\n")
+    ensures words_line { result ≡ 2 → WritesLine (codes "stop 2 words\n")
         (K.written output.old) (K.written output.new) (K.faults output.old) (K.faults output.new) }
 
     // 3: only where the source failed. The line that says so was written and nothing else, but by chain the lines of views before it, and by
     // a node its lines.
     ensures read { result ≡ 3 → Rose (S.faults input.old) (S.faults input.new) }
-    ensures read_line { ¬ Asks words.now Chain → ¬ AskHost words.now → result ≡ 3 → Says (codes "stop 3 read\n")
+    ensures read_line { ¬ Asks words.now Chain → ¬ AskHost words.now → result ≡ 3 → WritesLine (codes "stop 3 read\n")
         (K.written output.old) (K.written output.new) (K.faults output.old) (K.faults output.new) }
     ensures read_behind_views { Asks words.now Chain → result ≡ 3
         → ShownAndSays (codes "stop 3 read\n") (S.left input.old) (S.left input.new)

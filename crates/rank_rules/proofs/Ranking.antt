@@ -11,7 +11,7 @@ use Rattle.group_defs.specs.Due.{least_due}
 use Rattle.pool_laws.specs.Least.{IsLeastBelow}
 use Rattle.stmt_codec.specs.Views.{report}
 use Rattle.own_place.specs.declared.own.Own.{Own}
-use Rattle.own_place.specs.Owns.{Tells}
+use Rattle.own_place.specs.Owns.{IsOwnOf}
 use Rattle.own_place.specs.Signed.{has_slot}
 use Rattle.rule_laws.specs.Heard.{IsPool}
 use Rattle.rule_laws.specs.Ranks.{acked, may_ready, may_last, may_suggest, suggested, is_ack_due}
@@ -20,7 +20,7 @@ use Rattle.rule_laws.proofs.Numbers.{least-same}
 use Rattle.ending_rules.proofs.Telling.{some-value, same-pool, member-is, outside, inside}
 use Rattle.rank_rules.specs.Open.{is_ready_open, is_last_open, is_suggest_open, is_ack_open}
 
-module _ (s : Setting) (p : Process) (h : Pool) (own : Own) (tells : Tells s p h own) where
+module _ (s : Setting) (p : Process) (h : Pool) (own : Own) (tells : IsOwnOf s p h own) where
   -- ---- Lasts
 
   last-signed : is_signed p (LastAt p.pool.view.number (removed_rank p.pool)) ≡ has_slot own.signed (LastAt h.view.number (removed_rank h))

@@ -6,7 +6,7 @@ ghost use Rattle.message_defs.specs.Statements.{Suggest};
 ghost use Rattle.group_defs.specs.Process.{Setting, Process, Suggests};
 ghost use Rattle.group_defs.specs.Due.{least_due};
 ghost use Rattle.group_defs.specs.Values as defs;
-ghost use Rattle.own_place.specs.Owns.{Tells};
+ghost use Rattle.own_place.specs.Owns.{IsOwnOf};
 ghost use Rattle.rp_base.specs.Views.{value as value_of};
 ghost use Rattle.rule_laws.specs.Heard.{IsPool};
 ghost use Rattle.ending_rules.specs.Due.{IsLeastDue};
@@ -54,7 +54,7 @@ fn is_open(pool: &Pool, own: &Own, rank: u8) -> bool
 /// The rank and the value of the Suggest that is due: at the own position, of what is chosen there, which is handed in. None
 /// exactly where none is due.
 pub fn suggest_due(pool: &Pool, own: &Own, chosen: Option<Value>) -> Option<(u8, Value)>
-    ensures { (s : Setting) (p : Process) → Tells s p pool.now.pool own.now
+    ensures { (s : Setting) (p : Process) → IsOwnOf s p pool.now.pool own.now
         → ((r : ℕ) → own.now.position ≡ Some r → option_map value_of chosen ≡ defs.choose s pool.now.pool r)
         → least_due s p Suggests ≡ option_map (λ v. Suggest pool.now.pool.view.number v.0 (value_of v.1)) result }
 {

@@ -1,7 +1,7 @@
 -- Reading a schedule in pieces: bytes are fed, and each event is given as soon as it is whole. However the bytes are cut, what is given
 -- and what is refused is that of all of them in one.
 -- Names here (* for this crate alone):
---   Reading, most_waiting, AreRead, within_limit, readable, HasGiven, Stands, IsShort, NoneWhole, GivesNext, IsWhole, EndsSo
+--   Reading, most_waiting, AreRead, within_limit, readable, HasGiven, WasFed, IsShort, NoneWhole, GivesNext, IsWhole, EndsSo
 use Rattle.std.specs.Prelude.{◌≡◌, ℕ, ◌+◌, ◌-◌, ◌≤◌, List, [], ◌∷◌, ◌++◌, length, take, Option, None, Some, Result, Ok, Err, IsErr}
 use Rattle.replay_defs.specs.declared.FaultKind.TheVariants as faults
 use Rattle.replay_defs.specs.declared.Found.{Found}
@@ -47,8 +47,8 @@ HasGiven (Some h) r fed es =
     (first : List ℕ) × (header_at (within_limit fed) ≡ Ok (h, first))
     × AreRead (roles_of h.processes) most_steps first es r.steps (readable r)
 
--- this is known where these bytes were fed and these events given, and no fault was found
-pub record Stands (r : Reading) (fed : List ℕ) (es : List ScheduleEvent) : Type 0 where
+-- these bytes were fed and these events given, and no fault was found
+pub record WasFed (r : Reading) (fed : List ℕ) (es : List ScheduleEvent) : Type 0 where
   pub unstopped : r.fault ≡ None
   pub size : r.taken + length r.waiting ≡ length fed
   pub below : r.taken ≤ most_bytes
@@ -67,11 +67,11 @@ NoneWhole (Some h) r = IsShort (event_at (roles_of h.processes) r.steps r.waitin
 -- What is answered where the next event is asked for: the event after those that were given; nothing; the fault of the input, however
 -- it goes on; or want of memory.
 abbrev pub GivesNext : List ℕ → List ScheduleEvent → Reading → Result (Option ScheduleEvent) (Option Fault) → Type 0
-GivesNext fed es r (Ok (Some e)) = Stands r fed (es ++ e ∷ [])
-GivesNext fed es r (Ok None) = Stands r fed es × NoneWhole r.header r × (length fed ≤ most_bytes)
+GivesNext fed es r (Ok (Some e)) = WasFed r fed (es ++ e ∷ [])
+GivesNext fed es r (Ok None) = WasFed r fed es × NoneWhole r.header r × (length fed ≤ most_bytes)
 GivesNext fed es r (Err (Some fault)) = ((more : List ℕ) → schedule_of (fed ++ more) ≡ Err fault) × (r.fault ≡ Some fault)
     × (r.waiting ≡ [])
-GivesNext fed es r (Err None) = Stands r fed es
+GivesNext fed es r (Err None) = WasFed r fed es
 
 -- The events that still wait, where the input is whole.
 pub record IsWhole (r : Reading) (fed : List ℕ) (es : List ScheduleEvent) : Type 0 where

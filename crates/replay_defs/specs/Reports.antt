@@ -12,26 +12,25 @@
 -- The short report has one line `refused N`, the number of refused steps, and of the processes the first line alone.
 -- Names here (* for this crate alone):
 --   words: frame_word, update_word*, refusal_word, schedule_word*, payload_word
---   the phase of a process: is_end_of, has_ended, phase_word
---   the lines of a process: process_line, view_line, message_line, message_lines, liars, liar_line, spent_line, halted_line, block
+--   the word of a phase: phase_name
+--   the lines of a process: process_line, view_line, message_line, message_lines, liar_line, spent_line, halted_line, block
 --   the other lines: head_lines, refused_line, refused_count, answer_line, answer_lines
 --   the reports: report*, report_short*, report_by
 --   of the bytes: ReplayFault, report_if_run, report_if_read, report_of, fault_words
-use Rattle.std.specs.Prelude.{ℕ, Bool, false, ◌==◌, if◌then◌else◌, List, [], ◌∷◌, ◌++◌, length, map, sum, Some, None, is_some, codes, Result, Ok, Err}
-use Rattle.std.specs.List.{list_any, flat_map, enumerate_from}
+use Rattle.std.specs.Prelude.{ℕ, Bool, false, if◌then◌else◌, List, [], ◌∷◌, ◌++◌, length, map, sum, Some, None, codes, Result, Ok, Err}
+use Rattle.std.specs.List.{flat_map, enumerate_from}
 use Rattle.std.specs.Fmt.{decimal}
 use Rattle.hex.specs.Hex.{encode_lower}
-use Rattle.byte_defs.specs.Orders.{sorted}
 use Rattle.byte_defs.specs.Members.{has}
 use Rattle.text_defs.specs.Words.{line_text}
 use Rattle.message_defs.specs.declared.FrameFault.{FrameFault}
 use Rattle.message_defs.specs.declared.FrameFault.TheVariants as frames
-use Rattle.message_defs.specs.Statements.{End, Statement}
-use Rattle.group_defs.specs.Views.{View, is_member, UpdateFault, ViewsSpent, AlreadyMember, GroupFull, NotMember, LastMember}
-use Rattle.group_defs.specs.Process.{Delivered, Process, keyed, views_of, deliveries_of, places_in}
+use Rattle.group_defs.specs.Views.{View, UpdateFault, ViewsSpent, AlreadyMember, GroupFull, NotMember, LastMember}
+use Rattle.group_defs.specs.Process.{Delivered, Process, keyed, views_of, deliveries_of, liars_of, places_in}
+use Rattle.group_defs.specs.Settle.{Phase, Observing, OpenView, ClosingView, DecidedView, HaltedView, phase_of}
 use Rattle.group_defs.specs.Events.{EventFault, HaltedNow, BadFrame, Outsider, TooLong, Backlog, NoKey, NoNext}
 use Rattle.group_defs.specs.Accounts.{bounded, agree, sound}
-use Rattle.group_defs.specs.Family.{Family, ends, accounts, numbers, statements_of, honest}
+use Rattle.group_defs.specs.Family.{Family, ends, accounts, numbers, honest}
 use Rattle.replay_defs.specs.declared.FaultKind.{FaultKind}
 use Rattle.replay_defs.specs.declared.FaultKind.TheVariants as faults
 use Rattle.replay_defs.specs.Schedules.{Schedule}
@@ -89,29 +88,22 @@ abbrev pub payload_word : List ℕ → List ℕ
 payload_word [] = codes "-"
 payload_word (b ∷ bytes) = encode_lower (b ∷ bytes)
 
--- ---- the phase of a process
+-- ---- the word of a phase
 
--- the statement is an End of the view of this number
-abbrev pub is_end_of : ℕ → Statement → Bool
-is_end_of x (End y k) = x == y
-is_end_of x _ = false
-
--- it has signed an End of its view
-abbrev pub has_ended : Process → Bool
-has_ended p = list_any (is_end_of p.pool.view.number) (statements_of p)
-
--- halted beyond the cut, or decided, or a member that has signed an End or has not; else an observer
-abbrev pub phase_word : Process → List ℕ
-phase_word p =
-    if p.halted then codes "halted" else (if is_some p.decision then codes "decided" else
-    (if is_member p.pool.view p.me then (if has_ended p then codes "closing" else codes "open") else codes "observer"))
+-- a member is halted, or decided, or has signed its End or has not; one who is no member is an observer
+abbrev pub phase_name : Phase → List ℕ
+phase_name Observing = codes "observer"
+phase_name OpenView = codes "open"
+phase_name ClosingView = codes "closing"
+phase_name DecidedView = codes "decided"
+phase_name HaltedView = codes "halted"
 
 -- ---- the lines of a process
 
 -- its phase, how many views it installed, how many messages it delivered in them, and how many statements it signed
 abbrev pub process_line : Process → List ℕ
 process_line p = line_text (
-    codes "process" ∷ decimal p.me ∷ phase_word p ∷ decimal (length (views_of p))
+    codes "process" ∷ decimal p.me ∷ phase_name (phase_of p) ∷ decimal (length (views_of p))
     ∷ decimal (sum (map length (deliveries_of p))) ∷ decimal (length p.signed) ∷ [])
 
 -- a view that it installed
@@ -128,11 +120,7 @@ message_line me x d = line_text (
 abbrev pub message_lines : ℕ → ℕ × List Delivered → List ℕ
 message_lines me view = flat_map (message_line me view.0) view.1
 
--- the signers with a kept conflict, rising
-abbrev pub liars : Process → List ℕ
-liars p = sorted (λ q. q ∷ []) (map (λ pair. pair.0.signer) p.conflicts)
-
--- one of them
+-- one of the signers with a kept conflict
 abbrev pub liar_line : ℕ → ℕ → List ℕ
 liar_line me q = line_text (codes "liar" ∷ decimal me ∷ decimal q ∷ [])
 
@@ -153,7 +141,7 @@ block spent p =
     process_line p
     ++ flat_map (view_line p.me) (views_of p)
     ++ flat_map (message_lines p.me) (enumerate_from 0 (deliveries_of p))
-    ++ flat_map (liar_line p.me) (liars p)
+    ++ flat_map (liar_line p.me) (liars_of p)
     ++ spent_line spent p.me
     ++ halted_line p
 

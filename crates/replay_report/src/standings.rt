@@ -6,7 +6,7 @@ ghost use Rattle.group_defs.specs.Accounts.{account_of};
 ghost use Rattle.accounts.specs.Views.{account};
 ghost use Rattle.replay_defs.specs.Worlds as plain;
 ghost use Rattle.replay_questions.specs.Cast.{Plays, ArePlayers, process_of};
-ghost use Rattle.report_lines.specs.Standings.{StandsAs};
+ghost use Rattle.report_lines.specs.AsReported.{IsAsReported};
 
 use accounts::{Account, copy_account};
 use replay_questions::Player;
@@ -16,7 +16,7 @@ use std::alloc::Global;
 
 /// What a report says of the process.
 pub(crate) fn standing_of(player: &Player) -> Standing<'_>
-    ensures { (s : Setting) (c : plain.Player) → Plays s player.now c → StandsAs result c.now }
+    ensures { (s : Setting) (c : plain.Player) → Plays s player.now c → IsAsReported result c.now }
 {
     let core = &player.core;
     Standing {

@@ -5,7 +5,7 @@ use Rattle.std.specs.Option.{option_map}
 use Rattle.replay_defs.specs.declared.Fault.{Fault}
 use Rattle.replay_defs.specs.Schedules as plain
 use Rattle.replay_defs.specs.Reports as reports
-use Rattle.replay_defs.specs.Pieces.{Reading, Stands, GivesNext}
+use Rattle.replay_defs.specs.Pieces.{Reading, WasFed, GivesNext}
 use Rattle.schedule_file.specs.declared.schedule.ScheduleEvent.{ScheduleEvent}
 use Rattle.schedule_file.specs.Views.{event}
 use Rattle.schedule_fields.specs.declared.fault.ScheduleFault.{ScheduleFault}
@@ -25,7 +25,7 @@ moves_on old new None moves = tt
 
 module _ (old new : Reading) (run : Run) (fed : List ℕ) (midway : IsMidway old run fed)
     (answer : Result (Option ScheduleEvent) ScheduleFault)
-    (gives : (fed : List ℕ) (es : List plain.ScheduleEvent) → Stands old fed es → GivesNext fed es new (plainly answer))
+    (gives : (fed : List ℕ) (es : List plain.ScheduleEvent) → WasFed old fed es → GivesNext fed es new (plainly answer))
     (again : (f : Fault) → old.fault ≡ Some f → (new ≡ old) × (plainly answer ≡ Err (Some f))) (moves : MovesOn old new answer)
     (room : LeavesRoom new answer) where
   pub gives_next : (next : Option ScheduleEvent) → answer ≡ Ok next → Gives new run fed (option_map event next)

@@ -8,7 +8,7 @@ use Rattle.replay_defs.specs.Reading.{schedule_of}
 use Rattle.replay_defs.specs.Worlds.{family_of}
 use Rattle.replay_defs.specs.Reports as plain
 use Rattle.replay_defs.specs.Reports.{report_if_run, report_of, report_by}
-use Rattle.replay_defs.specs.Pieces.{Reading, Stands, IsWhole}
+use Rattle.replay_defs.specs.Pieces.{Reading, WasFed, IsWhole}
 use Rattle.schedule_fields.specs.declared.fault.ScheduleFault.{ScheduleFault}
 use Rattle.schedule_fields.specs.Faults.{fault_of}
 use Rattle.schedule_pieces.specs.Readers.{Ends, IsFault}
@@ -35,7 +35,7 @@ pub record HasRunWhole (fed : List ℕ) (run : Run) : Type 0 where
   pub ran : IsRunOf schedule.header schedule.events run
 
 module _ (r : Reading) (run : Run) (fed : List ℕ) (after : IsAfter r run fed) (answer : Result (Unit {0}) ScheduleFault)
-    (ends : (fed : List ℕ) (es : List ScheduleEvent) → Stands r fed es → Ends r fed es answer)
+    (ends : (fed : List ℕ) (es : List ScheduleEvent) → WasFed r fed es → Ends r fed es answer)
     (again : (f : Fault) → r.fault ≡ Some f → IsFault f answer) where
   pub ran_whole : (u : Unit {0}) → answer ≡ Ok u → HasRunWhole fed run
   ran_whole u is = go r.fault refl after.midway.holds

@@ -6,7 +6,7 @@ use Rattle.byte_defs.proofs.Fields.{IsBytes}
 use Rattle.replay_defs.specs.declared.Fault.{Fault}
 use Rattle.replay_defs.specs.Schedules.{Header, ScheduleEvent, IsHeader, IsEvent, most_bytes}
 use Rattle.replay_defs.specs.Reading.{schedule_of}
-use Rattle.replay_defs.specs.Pieces.{Reading, Stands, NoneWhole, GivesNext, most_waiting}
+use Rattle.replay_defs.specs.Pieces.{Reading, WasFed, NoneWhole, GivesNext, most_waiting}
 use Rattle.schedule_laws.proofs.Pieces.{nothing_taken}
 use Rattle.replay_run.specs.declared.run.Run.{Run}
 use Rattle.replay_run.specs.declared.run.Run.TheVariants.{Waits, Runs, Stops}
@@ -18,7 +18,7 @@ use Rattle.replay_run.proofs.Grammar.{header_stays, header_ranges, events_ranges
 
 -- ---- at first
 
-pub nothing_fed : (r : Reading) → Stands r [] [] → IsAfter r Waits []
+pub nothing_fed : (r : Reading) → WasFed r [] [] → IsAfter r Waits []
 unfolding most_waiting
 nothing_fed r stands =
     let none = none_yet r stands in
@@ -41,7 +41,7 @@ IsBytes-append (x ∷ xs) ys fits more zero = fits 0
 IsBytes-append (x ∷ xs) ys fits more (suc i) = IsBytes-append xs ys (λ j. fits (suc j)) more i
 
 module _ (old new : Reading) (run : Run) (fed piece : List ℕ) (after : IsAfter old run fed) (fits : IsBytes piece)
-    (feeds : (fed : List ℕ) (es : List ScheduleEvent) → Stands old fed es → Stands new (fed ++ piece) es)
+    (feeds : (fed : List ℕ) (es : List ScheduleEvent) → WasFed old fed es → WasFed new (fed ++ piece) es)
     (stopped : IsSome old.fault → new ≡ old) where
   all_fit : IsBytes (fed ++ piece)
   all_fit = IsBytes-append fed piece after.midway.bytes fits
@@ -58,7 +58,7 @@ module _ (old new : Reading) (run : Run) (fed piece : List ℕ) (after : IsAfter
       go (Some f) e has = subst (λ (r : Reading). IfSome r.header IsHeader) (sym (same f e)) after.midway.ranges
 
   -- the run that had begun goes on
-  begun : (es : List ScheduleEvent) (now : Run) → Stands old fed es → HasRun old.header es run → Begins new.header run now
+  begun : (es : List ScheduleEvent) (now : Run) → WasFed old fed es → HasRun old.header es run → Begins new.header run now
       → HasRun new.header es now
   begun es now stands has begins = by_header old.header refl has
     where
@@ -97,7 +97,7 @@ abbrev Answer : Type 0
 Answer = Result (Option ScheduleEvent) (Option Fault)
 
 module _ (old new : Reading) (run : Run) (fed : List ℕ) (midway : IsMidway old run fed) (answer : Answer)
-    (gives : (fed : List ℕ) (es : List ScheduleEvent) → Stands old fed es → GivesNext fed es new answer)
+    (gives : (fed : List ℕ) (es : List ScheduleEvent) → WasFed old fed es → GivesNext fed es new answer)
     (again : (f : Fault) → old.fault ≡ Some f → (new ≡ old) × (answer ≡ Err (Some f))) where
   counts : (h : Header) (es : List ScheduleEvent) (run : Run) → IsRunOf h es run → length es ≤ most_bytes → CanCount run
   unfolding most_bytes
@@ -110,7 +110,7 @@ module _ (old new : Reading) (run : Run) (fed : List ℕ) (midway : IsMidway old
   gives_event e is = go old.fault refl midway.holds
     where
       -- behind the header
-      behind : (es : List ScheduleEvent) (h : Header) → Stands old fed es → Stands new fed (es ++ e ∷ []) → old.header ≡ Some h
+      behind : (es : List ScheduleEvent) (h : Header) → WasFed old fed es → WasFed new fed (es ++ e ∷ []) → old.header ≡ Some h
           → IsRunOf h es run → Gives new run fed (Some e)
       behind es h stands now has of =
           let here : new.header ≡ Some h = header_stays old new fed fed [] es (es ++ e ∷ []) h (sym (append-nil fed)) stands now has in
@@ -124,7 +124,7 @@ module _ (old new : Reading) (run : Run) (fed : List ℕ) (midway : IsMidway old
             },
           )
 
-      by_header : (es : List ScheduleEvent) → Stands old fed es → Stands new fed (es ++ e ∷ []) → (o : Option Header) → old.header ≡ o
+      by_header : (es : List ScheduleEvent) → WasFed old fed es → WasFed new fed (es ++ e ∷ []) → (o : Option Header) → old.header ≡ o
           → HasRun o es run → Gives new run fed (Some e)
       by_header es stands now None none waits = absurd (some_header old new fed es e none stands now)
       by_header es stands now (Some h) has of = behind es h stands now has of

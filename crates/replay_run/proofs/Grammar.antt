@@ -7,7 +7,7 @@ use Rattle.byte_defs.proofs.Fields.{IsBytes, IsBytes-take}
 use Rattle.replay_defs.specs.declared.Found.{Found}
 use Rattle.replay_defs.specs.Schedules.{Header, ScheduleEvent, Listed, IsHeader, IsEvent, steps_of, header_bytes, most_steps, most_bytes}
 use Rattle.replay_defs.specs.Reading.{Step, roles_of, setting_at, header_at}
-use Rattle.replay_defs.specs.Pieces.{Reading, Stands, AreRead, HasGiven, IsShort, within_limit, readable}
+use Rattle.replay_defs.specs.Pieces.{Reading, WasFed, AreRead, HasGiven, IsShort, within_limit, readable}
 use Rattle.schedule_laws.proofs.Headers.{header_takes}
 use Rattle.schedule_laws.proofs.Events.{event_takes}
 use Rattle.schedule_laws.proofs.Behind.{event_shrinks}
@@ -49,7 +49,7 @@ longer h front more has = record {
   read = (front_stands (roles_of h.processes) 0 front more has.rest).0 h has.read;
 }
 
-pub header_of : (r : Reading) (fed : List ℕ) (es : List ScheduleEvent) (h : Header) → Stands r fed es → r.header ≡ Some h → HasHeader h fed
+pub header_of : (r : Reading) (fed : List ℕ) (es : List ScheduleEvent) (h : Header) → WasFed r fed es → r.header ≡ Some h → HasHeader h fed
 header_of r fed es h stands has =
     let given = subst (λ (o : Option Header). HasGiven o r fed es) has stands.given in
     let front : HasHeader h (within_limit fed) = record { rest = given.0; read = given.1 } in
@@ -73,7 +73,7 @@ unfolding header_at setting_at
 nothing_whole = refl
 
 -- where nothing was fed there is none, and nothing waits
-pub none_yet : (r : Reading) → Stands r [] [] → (r.header ≡ None) × (r.waiting ≡ []) × IsShort (header_at r.waiting)
+pub none_yet : (r : Reading) → WasFed r [] [] → (r.header ≡ None) × (r.waiting ≡ []) × IsShort (header_at r.waiting)
 none_yet r stands =
     let none = go r.header refl in
     let empty : r.waiting ≡ [] = (nothing_taken r [] [] none stands).1 in
@@ -89,7 +89,7 @@ none_yet r stands =
 
 -- a reader that has a header keeps it, however much it is fed and gives
 pub header_stays : (old new : Reading) (fed all more : List ℕ) (es fs : List ScheduleEvent) (h : Header) → all ≡ fed ++ more
-    → Stands old fed es → Stands new all fs → old.header ≡ Some h → new.header ≡ Some h
+    → WasFed old fed es → WasFed new all fs → old.header ≡ Some h → new.header ≡ Some h
 header_stays old new fed all more es fs h is stands now has = go new.header refl
   where
     here : HasHeader h all
@@ -100,8 +100,8 @@ header_stays old new fed all more es fs h is stands now has = go new.header refl
     go (Some g) e = ap Some (same_header g h all (header_of new all fs g now e) here)
 
 -- one that gave an event has one
-pub some_header : (old new : Reading) (fed : List ℕ) (es : List ScheduleEvent) (e : ScheduleEvent) → old.header ≡ None → Stands old fed es
-    → Stands new fed (es ++ e ∷ []) → ⊥
+pub some_header : (old new : Reading) (fed : List ℕ) (es : List ScheduleEvent) (e : ScheduleEvent) → old.header ≡ None → WasFed old fed es
+    → WasFed new fed (es ++ e ∷ []) → ⊥
 some_header old new fed es e none stands now = go new.header refl
   where
     not_none : (ds : List ScheduleEvent) → (ds ++ e ∷ []) ≡ [] → ⊥
@@ -113,7 +113,7 @@ some_header old new fed es e none stands now = go new.header refl
     go (Some h) at = no_header h fed (header_of new fed (es ++ e ∷ []) h now at) (nothing_taken old fed es none stands).3
 
 -- it is in its ranges
-pub header_ranges : (r : Reading) (fed : List ℕ) (es : List ScheduleEvent) → IsBytes fed → Stands r fed es → IfSome r.header IsHeader
+pub header_ranges : (r : Reading) (fed : List ℕ) (es : List ScheduleEvent) → IsBytes fed → WasFed r fed es → IfSome r.header IsHeader
 header_ranges r fed es fits stands = go r.header refl
   where
     go : (o : Option Header) → r.header ≡ o → IfSome o IsHeader
@@ -121,7 +121,7 @@ header_ranges r fed es fits stands = go r.header refl
     go (Some h) e = let has = header_of r fed es h stands e in (header_takes fed (h, has.rest) fits has.read).1
 
 -- the events behind it are in theirs, and are no more than the bytes that are read
-pub events_ranges : (r : Reading) (fed : List ℕ) (es : List ScheduleEvent) (h : Header) → IsBytes fed → Stands r fed es → r.header ≡ Some h
+pub events_ranges : (r : Reading) (fed : List ℕ) (es : List ScheduleEvent) (h : Header) → IsBytes fed → WasFed r fed es → r.header ≡ Some h
     → AllByRecursion (IsEvent h.processes) es × (length es ≤ most_bytes)
 events_ranges r fed es h fits stands has =
     let given = subst (λ (o : Option Header). HasGiven o r fed es) has stands.given in

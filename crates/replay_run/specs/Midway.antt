@@ -4,13 +4,13 @@ use Rattle.byte_defs.proofs.Fields.{IsBytes}
 use Rattle.replay_defs.specs.declared.Fault.{Fault}
 use Rattle.replay_defs.specs.Schedules.{ScheduleEvent, IsHeader}
 use Rattle.replay_defs.specs.Reading.{schedule_of}
-use Rattle.replay_defs.specs.Pieces.{Reading, Stands, NoneWhole, most_waiting}
+use Rattle.replay_defs.specs.Pieces.{Reading, WasFed, NoneWhole, most_waiting}
 use Rattle.replay_run.specs.declared.run.Run.{Run}
 use Rattle.replay_run.specs.Running.{HasRun, RunsOn, CanCount}
 
 -- The run is that of the events that were read; or the bytes have this fault, however they go on, and then it counts no more.
 abbrev pub Holds : Option Fault → Reading → Run → List ℕ → Type 0
-Holds None r run fed = (es : List ScheduleEvent) × Stands r fed es × HasRun r.header es run
+Holds None r run fed = (es : List ScheduleEvent) × WasFed r fed es × HasRun r.header es run
 Holds (Some f) r run fed = ((more : List ℕ) → schedule_of (fed ++ more) ≡ Err f) × (r.waiting ≡ [])
 
 -- these bytes were fed, and some of the events that are whole were run

@@ -11,7 +11,7 @@ use Rattle.replay_defs.specs.Reading.{schedule_of}
 use Rattle.replay_defs.specs.Worlds.{World, WorldFault, world_of}
 use Rattle.replay_defs.specs.Reports.{ReplayFault, Stops, report_of, report_if_read, report_if_run}
 use Rattle.schedule_laws.proofs.Wholes.{schedule_takes, schedule_again}
-use Rattle.rp_base.specs.Streams.{AppendsPrefix, Says}
+use Rattle.rp_base.specs.Streams.{AppendsPrefix, WritesLine}
 use Rattle.replay_words.specs.Answers.{Runs, HasNoRun, Replayed, Refused, Reported, ReportedInPart, Stopped, report_of_run, stop_line}
 use Rattle.replay_words.proofs.Headline.{headline}
 
@@ -24,21 +24,21 @@ unfolding report_of
 of-read short bytes r read = ap (report_if_read short) read
 
 -- bytes with a report run
-pub record Tells (short : Bool) (bytes reported : List ℕ) : Type 0 where
+pub record HasReport (short : Bool) (bytes reported : List ℕ) : Type 0 where
   pub run : Runs bytes
   pub reported_is : reported ≡ report_of_run short run
 
-pub tells : (short : Bool) (bytes reported : List ℕ) → IsBytes bytes → report_of short bytes ≡ Ok reported → Tells short bytes reported
+pub tells : (short : Bool) (bytes reported : List ℕ) → IsBytes bytes → report_of short bytes ≡ Ok reported → HasReport short bytes reported
 tells short bytes reported fit e = of_reading (schedule_of bytes) refl (sym (of-read short bytes (schedule_of bytes) refl) ∙ e)
   where
     of_world : (sch : Schedule) → schedule_of bytes ≡ Ok sch → (r : Result World WorldFault) → world_of sch ≡ r
-        → report_if_run short sch r ≡ Ok reported → Tells short bytes reported
+        → report_if_run short sch r ≡ Ok reported → HasReport short bytes reported
     of_world sch read (Err fault) ran e = absurd cc
     of_world sch read (Ok w) ran e =
         let takes = schedule_takes bytes sch fit read in
         record { run = record { schedule = sch; fits = takes.0; spelled = takes.1; read = read; world = w; ran = ran }; reported_is = cc }
 
-    of_reading : (r : Result Schedule Fault) → schedule_of bytes ≡ r → report_if_read short r ≡ Ok reported → Tells short bytes reported
+    of_reading : (r : Result Schedule Fault) → schedule_of bytes ≡ r → report_if_read short r ≡ Ok reported → HasReport short bytes reported
     of_reading (Ok sch) is e = of_world sch is (world_of sch) refl e
     of_reading (Err fault) is e = absurd cc
 
@@ -156,8 +156,8 @@ module _ (short : Bool) (before now old new : Option (List ℕ)) (reported : Lis
   reported_in_part wrote = record { replayed = done.0; written = subst (AppendsPrefix old new) done.1 wrote }
 
 pub stopped : (before now old new : Option (List ℕ)) (line : List ℕ) (f f' : ℕ)
-    → (none : Refused before now) × (line ≡ stop_line none.none.fault) → Says line old new f f' → Stopped before now old new f f'
-stopped before now old new line f f' none said = record { refused = none.0; line = subst (λ (l : List ℕ). Says l old new f f') none.1 said }
+    → (none : Refused before now) × (line ≡ stop_line none.none.fault) → WritesLine line old new f f' → Stopped before now old new f f'
+stopped before now old new line f f' none said = record { refused = none.0; line = subst (λ (l : List ℕ). WritesLine l old new f f') none.1 said }
 
 -- ---- what a source told
 

@@ -26,7 +26,7 @@ use Rattle.replay_defs.specs.Generator.{generated}
 use Rattle.kit_defs.specs.Kits.{kit_text}
 use Rattle.kit_defs.specs.KitMaking.{made_kit}
 use Rattle.command_line.specs.Commands.{KitOrder}
-use Rattle.rp_base.specs.Streams.{AppendsPrefix, Says}
+use Rattle.rp_base.specs.Streams.{AppendsPrefix, WritesLine}
 
 -- ---- the bytes of an input
 
@@ -92,7 +92,7 @@ stop_line fault = line_text (codes "stop" ∷ codes "7" ∷ fault_words fault)
 -- The line of the input's fault was written, or the sink failed in the midst of it: by the count of its faults before and now.
 pub record Stopped (before now old new : Option (List ℕ)) (faults faults_now : ℕ) : Type 0 where
   pub refused : Refused before now
-  pub line : Says (stop_line refused.none.fault) old new faults faults_now
+  pub line : WritesLine (stop_line refused.none.fault) old new faults faults_now
 
 -- ---- schedules
 

@@ -6,7 +6,7 @@ ghost use Rattle.replay_defs.specs.Reports.{report_of};
 ghost use Rattle.command_line.specs.Commands.{IsOrder};
 ghost use Rattle.command_line.specs.Views.{order};
 ghost use Rattle.replay_words.specs.Statuses.{status_of, line_of};
-ghost use Rattle.rp_base.specs.Streams.{AppendsPrefix, Says};
+ghost use Rattle.rp_base.specs.Streams.{AppendsPrefix, WritesLine};
 ghost use Rattle.replay_words.specs.Answers.{Reported, ReportedInPart, Stopped, kit_of_order, schedule_of_number};
 
 use crate::generating::write_generated;
@@ -22,7 +22,7 @@ const INPUT: u8 = 7;
 
 /// Writes a line, or a prefix of it where a write fails: a fault is no more than that.
 fn say<K: Sink>(output: &mut K, line: &[u8])
-    ensures { Says line.now (K.written output.old) (K.written output.new) (K.faults output.old) (K.faults output.new) }
+    ensures { WritesLine line.now (K.written output.old) (K.written output.new) (K.faults output.old) (K.faults output.new) }
 {
     let _ = write_all(output, line);
 }
@@ -30,7 +30,7 @@ fn say<K: Sink>(output: &mut K, line: &[u8])
 /// Writes the line that says why a run stops, and answers its status. A fault meanwhile leaves the status as it is.
 pub fn tell<K: Sink>(output: &mut K, stop: Stop) -> u8
     ensures status { result ≡ status_of stop }
-    ensures line { Says (line_of stop)
+    ensures line { WritesLine (line_of stop)
         (K.written output.old) (K.written output.new) (K.faults output.old) (K.faults output.new) }
 {
     say(output, stop.line());
@@ -64,7 +64,7 @@ pub fn run_replay<S: Source, K: Sink>(
         → (S.faults input.new ≡ S.faults input.old) × (K.faults output.new ≡ K.faults output.old) }
     ensures silent { result ≡ 1 → Keeps (K.written output.old) (K.written output.new) }
     ensures read { result ≡ 3 → Rose (S.faults input.old) (S.faults input.new) }
-    ensures read_line { result ≡ 3 → Says (codes "stop 3 read\n")
+    ensures read_line { result ≡ 3 → WritesLine (codes "stop 3 read\n")
         (K.written output.old) (K.written output.new) (K.faults output.old) (K.faults output.new) }
     ensures write { result ≡ 4 → Rose (K.faults output.old) (K.faults output.new) }
     ensures part { result ≡ 4

@@ -7,8 +7,8 @@ use Rattle.replay_defs.specs.Worlds.{setting_of, drains}
 use Rattle.trace_defs.specs.Happenings.{Happening}
 use Rattle.reported_defs.specs.Reported.{drain_tells}
 use Rattle.happenings.specs.declared.reported.Reported.{Reported}
-use Rattle.happenings.specs.Reported.{Tells}
-use Rattle.replay_world.specs.Telling.{TellsOf, oldest_tells}
+use Rattle.happenings.specs.Reported.{WasReported}
+use Rattle.replay_world.specs.Telling.{ReportsOf, oldest_tells}
 use Rattle.replay_world.proofs.Saying.{none_reported, one_reported, tells_more, tells_nothing, zero_reported}
 use Rattle.replay_world.specs.declared.world.World.{World}
 use Rattle.replay_world.specs.declared.fault.WorldFault.{WorldFault}
@@ -106,7 +106,7 @@ pub record ReportedOnTheWay (mask all : ℕ) (first_reported : Reported) (left :
   pub world : plain.World
   pub shows : Shows h now world
   pub so_far : List Happening
-  pub tells : Tells first_reported so_far reported
+  pub tells : WasReported first_reported so_far reported
   pub leads : so_far ++ drain_tells (setting_of h) mask left world ≡ drain_tells (setting_of h) mask all v
 
 -- for each world that the first one shows
@@ -120,7 +120,7 @@ reported_begin mask all first reported = λ h v shows. record { world = v; shows
 -- one delivery more
 pub reported_on : (mask all left : ℕ) (first old new : World) (first_reported reported new_reported : Reported)
     → ReportedSoFar mask all first first_reported (suc left) old reported
-    → Becomes (λ h v. oldest_arrives (setting_of h) mask v) old new → TellsOf (λ h v. oldest_tells (setting_of h) mask v) old reported new_reported
+    → Becomes (λ h v. oldest_arrives (setting_of h) mask v) old new → ReportsOf (λ h v. oldest_tells (setting_of h) mask v) old reported new_reported
     → ((h : Header) (v : plain.World) → Shows h old v → true ≡ is_some (slice_get v.pending 0))
     → ReportedSoFar mask all first first_reported left new new_reported
 reported_on mask all left first old new first_reported reported new_reported on becomes tells waits = λ h v shows.
@@ -141,22 +141,22 @@ reported_on mask all left first old new first_reported reported new_reported on 
 
 -- none is left to make
 pub reported_done : (mask all : ℕ) (first now : World) (first_reported reported : Reported) → ReportedSoFar mask all first first_reported 0 now reported
-    → TellsOf (λ h v. drain_tells (setting_of h) mask all v) first first_reported reported
+    → ReportsOf (λ h v. drain_tells (setting_of h) mask all v) first first_reported reported
 reported_done mask all first now first_reported reported on = λ h v shows.
     let way = on h v shows in
-    let P : List Happening → Type 0 = λ xs. Tells first_reported xs reported in
+    let P : List Happening → Type 0 = λ xs. WasReported first_reported xs reported in
     subst P (sym (append-nil way.so_far) ∙ ap (λ (xs : List Happening). way.so_far ++ xs)
     (sym (zero_reported (setting_of h) mask way.world)) ∙ way.leads) way.tells
 
 -- none waits any more
 pub reported_out : (mask all left : ℕ) (first old : World) (first_reported reported new_reported : Reported) → ReportedSoFar mask all first first_reported left old reported
-    → TellsOf (λ h v. oldest_tells (setting_of h) mask v) old reported new_reported
+    → ReportsOf (λ h v. oldest_tells (setting_of h) mask v) old reported new_reported
     → ((h : Header) (v : plain.World) → Shows h old v → false ≡ is_some (slice_get v.pending 0))
-    → TellsOf (λ h v. drain_tells (setting_of h) mask all v) first first_reported new_reported
+    → ReportsOf (λ h v. drain_tells (setting_of h) mask all v) first first_reported new_reported
 reported_out mask all left first old first_reported reported new_reported on tells waits = λ h v shows.
     let way = on h v shows in
     let one = oldest_tells (setting_of h) mask way.world in
-    let P : List Happening → Type 0 = λ xs. Tells first_reported xs new_reported in
+    let P : List Happening → Type 0 = λ xs. WasReported first_reported xs new_reported in
     subst P (ap (λ (xs : List Happening). way.so_far ++ xs)
     (sym (none_reported (setting_of h) mask left way.world (slice_get way.world.pending 0) refl
     (sym (waits h way.world way.shows)))) ∙ way.leads)

@@ -34,7 +34,7 @@ use Rattle.trace_defs.specs.Happenings as defs
 use Rattle.reported_defs.specs.Reported.{takes_in}
 use Rattle.happenings.specs.declared.reported.Handed.{Handed}
 use Rattle.happenings.specs.declared.reported.Reported.{Reported}
-use Rattle.happenings.specs.Reported.{handed, Tells}
+use Rattle.happenings.specs.Reported.{handed, WasReported}
 use Rattle.replay_world.specs.Telling.{TellsStep}
 use Rattle.replay_world.proofs.Saying.{takes_placed}
 use Rattle.replay_world.proofs.Seats.{FindsAlike, PlacedAt, finds_alike}
@@ -105,9 +105,9 @@ given h old stepped v at i ev r shows is steps same carries keeps =
 pub given_tells : (h : Header) (stepped : World) (v : plain.World) (at : ℕ) (e : group.Event) (r : Outcome) (what : Handed) (first : ℕ)
     (old new : Reported)
     → Given h stepped v at e r → length v.frames ≡ first → TellsStep old at what first r new
-    → Tells old (takes_in (setting_of h) v at (handed what) e) new
+    → WasReported old (takes_in (setting_of h) v at (handed what) e) new
 given_tells h stepped v at e r what first old new g counted step =
-    let P : List defs.Happening → Type 0 = λ xs. Tells old xs new in
+    let P : List defs.Happening → Type 0 = λ xs. WasReported old xs new in
     subst P (sym (g.reported (handed what) ∙ ap (λ (n : ℕ). defs.Takes at (handed what) n (seen g.out) ∷ []) counted)) (step g.out g.is)
 
 -- what came of it is noted

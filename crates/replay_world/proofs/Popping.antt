@@ -10,8 +10,8 @@ use Rattle.replay_world.specs.declared.world.World.{World}
 use Rattle.replay_world.specs.declared.fault.WorldFault.{WorldFault}
 use Rattle.trace_defs.specs.Happenings.{Happening}
 use Rattle.happenings.specs.declared.reported.Reported.{Reported}
-use Rattle.happenings.specs.Reported.{Tells}
-use Rattle.replay_world.specs.Telling.{TellsOf, arrives_or_lost, oldest_tells}
+use Rattle.happenings.specs.Reported.{WasReported}
+use Rattle.replay_world.specs.Telling.{ReportsOf, arrives_or_lost, oldest_tells}
 use Rattle.replay_world.proofs.Saying.{oldest_reported}
 use Rattle.replay_world.specs.Traffic.{delivery, IsTooMuch}
 use Rattle.replay_world.specs.Worlds.{Shows, Becomes, Exceeds}
@@ -75,8 +75,8 @@ pops_exceed old mid d mask fault is popped exceeds = λ h v shows.
 pub pops_tell : (old mid : World) (d : Delivery) (mask : ℕ) (before now : Reported)
     → mid ≡ record old { traffic = record old.traffic { pending = mid.traffic.pending } }
     → deque_items old.traffic.pending ≡ d ∷ deque_items mid.traffic.pending
-    → TellsOf (λ h v. arrives_or_lost (setting_of h) mask v (delivery d)) mid before now
-    → TellsOf (λ h v. oldest_tells (setting_of h) mask v) old before now
+    → ReportsOf (λ h v. arrives_or_lost (setting_of h) mask v (delivery d)) mid before now
+    → ReportsOf (λ h v. oldest_tells (setting_of h) mask v) old before now
 pops_tell old mid d mask before now is popped tells = λ h v shows.
-    let P : List Happening → Type 0 = λ xs. Tells before xs now in
+    let P : List Happening → Type 0 = λ xs. WasReported before xs now in
     subst P (sym (oldest_reported h old mid v d mask shows popped)) (tells h (others_of v) (popped_shows h old mid v d shows is popped))

@@ -13,7 +13,7 @@ use Rattle.trace_defs.specs.Outcomes.{seen}
 use Rattle.trace_defs.specs.Happenings.{Happening, Takes, Loses, Handed, Frame}
 use Rattle.reported_defs.specs.Reported.{takes_in, gets_frame, loses, next_tells, drain_tells}
 use Rattle.happenings.specs.declared.reported.Reported.{Reported}
-use Rattle.happenings.specs.Reported.{reported_of, Tells}
+use Rattle.happenings.specs.Reported.{reported_of, WasReported}
 use Rattle.replay_world.specs.declared.traffic.Sent.{Sent}
 use Rattle.replay_world.specs.declared.world.World.{World}
 use Rattle.std.specs.VecDeque.{deque_items}
@@ -30,7 +30,7 @@ none_more : (o : Option (List Happening)) → o ≡ option_map (λ (before : Lis
 none_more None = refl
 none_more (Some before) = ap (λ (b : List Happening). Some b) (sym (append-nil before))
 
-pub tells_nothing : (a : Reported) → Tells a [] a
+pub tells_nothing : (a : Reported) → WasReported a [] a
 tells_nothing a = none_more (reported_of a)
 
 both_more : (o : Option (List Happening)) (xs ys : List Happening)
@@ -39,7 +39,7 @@ both_more : (o : Option (List Happening)) (xs ys : List Happening)
 both_more None xs ys = refl
 both_more (Some before) xs ys = ap (λ (b : List Happening). Some b) (append_assoc before xs ys)
 
-pub tells_more : (a b c : Reported) (xs ys : List Happening) → Tells a xs b → Tells b ys c → Tells a (xs ++ ys) c
+pub tells_more : (a b c : Reported) (xs ys : List Happening) → WasReported a xs b → WasReported b ys c → WasReported a (xs ++ ys) c
 tells_more a b c xs ys first second =
     second ∙ ap (option_map (λ (before : List Happening). before ++ ys)) first ∙ both_more (reported_of a) xs ys
 

@@ -290,7 +290,7 @@ lied_shows h old new v p i to bytes x now l s same get at is kept once liars car
 }
 
 -- a lie that is told, in the definitions' words
-pub record Tells (h : Header) (v : plain.World) (p m : ℕ) (to bytes : List ℕ) (st : Statement) : Type 0 where
+pub record LieIsSent (h : Header) (v : plain.World) (p m : ℕ) (to bytes : List ℕ) (st : Statement) : Type 0 where
   pub listed : Listed
   pub found : find (is_listed_as p) h.processes ≡ Some listed
   pub sent : plain.send p (has to) v bytes ≡ sends_lie h v m listed st
@@ -298,7 +298,7 @@ pub record Tells (h : Header) (v : plain.World) (p m : ℕ) (to bytes : List ℕ
 -- where the code told it, so do the definitions
 pub reported : (h : Header) (old : World) (v : plain.World) (p i m : ℕ) (to bytes : List ℕ) (st : Statement) (now : Liar) (x : Liar)
     (l : Listed) → Shows h old v → Lies v.frames x l → l.process ≡ p
-    → find (is_listed_as p) (corrupt_of h.processes) ≡ Some l → Reported old.group st x now bytes → to ≡ members m → Tells h v p m to bytes st
+    → find (is_listed_as p) (corrupt_of h.processes) ≡ Some l → Reported old.group st x now bytes → to ≡ members m → LieIsSent h v p m to bytes st
 reported h old v p i m to bytes st now x l s lies is found lie those = record {
   listed = l;
   found = found_in_all h.scheme 0 p h.processes l s.rising found;

@@ -11,7 +11,7 @@ use Rattle.member_events.specs.declared.events.Outcome.{Outcome}
 use Rattle.happenings.specs.Events.{IsOutcome}
 use Rattle.happenings.specs.declared.reported.Handed.{Handed}
 use Rattle.happenings.specs.declared.reported.Reported.{Reported}
-use Rattle.happenings.specs.Reported.{handed, Tells}
+use Rattle.happenings.specs.Reported.{handed, WasReported}
 use Rattle.replay_world.specs.declared.world.World.{World}
 use Rattle.replay_world.specs.Worlds.{Shows}
 
@@ -21,11 +21,11 @@ frame_count w = length w.traffic.frames.items
 
 -- what came of an event at a process is reported
 abbrev pub TellsStep : Reported → ℕ → Handed → ℕ → Outcome → Reported → Type 0
-TellsStep old p what first r new = (o : group.Outcome) → IsOutcome o r → Tells old (Takes p (handed what) first (seen o) ∷ []) new
+TellsStep old p what first r new = (o : group.Outcome) → IsOutcome o r → WasReported old (Takes p (handed what) first (seen o) ∷ []) new
 
 -- of a world that this one shows, this is reported
-abbrev pub TellsOf : (Header → plain.World → List Happening) → World → Reported → Reported → Type 0
-TellsOf what w old new = (h : Header) (v : plain.World) → Shows h w v → Tells old (what h v) new
+abbrev pub ReportsOf : (Header → plain.World → List Happening) → World → Reported → Reported → Type 0
+ReportsOf what w old new = (h : Header) (v : plain.World) → Shows h w v → WasReported old (what h v) new
 
 -- a delivery that waits no more is made, or lost
 abbrev pub arrives_or_lost : Setting → ℕ → plain.World → ℕ × ℕ → List Happening

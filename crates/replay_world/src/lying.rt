@@ -5,7 +5,7 @@ ghost use Rattle.message_defs.specs.Spelling.{IsStatement};
 ghost use Rattle.rp_base.specs.Pids.{mask_of};
 ghost use Rattle.replay_defs.specs.Schedules as schedules;
 ghost use Rattle.member_events.specs.Below.{stmt};
-ghost use Rattle.happenings.specs.Reported.{Tells};
+ghost use Rattle.happenings.specs.Reported.{WasReported};
 ghost use Rattle.trace_defs.specs.Happenings as defs;
 ghost use Rattle.reported_defs.specs.Reported as reported_defs;
 ghost use Rattle.replay_world.specs.Lying.{LiesAt};
@@ -55,7 +55,7 @@ impl World {
         statement: &[u8],
         reported: &mut Reported,
     ) -> Result<(), NoMemory>
-        ensures { OnOk result (Tells reported.old (defs.Lies signer statement.now (frame_count self.now) to ∷ []) reported.new) }
+        ensures { OnOk result (WasReported reported.old (defs.Lies signer statement.now (frame_count self.now) to ∷ []) reported.new) }
     {
         if !reported.is_asked() {
             return Ok(());
@@ -80,7 +80,7 @@ impl World {
     ) -> Result<(), WorldFault>
         ensures tells { OnOk result ((h : schedules.Header) (v : plain.World) → Shows h self.old v
             → schedules.IsEvent h.processes (schedules.Lie signer (mask_of to) statement.now)
-            → Tells reported.old (reported_defs.liar_tells h v signer (mask_of to) statement.now) reported.new) }
+            → WasReported reported.old (reported_defs.liar_tells h v signer (mask_of to) statement.now) reported.new) }
         ensures happens { OnOk result (HappensYet self.old self.new (schedules.Lie signer (mask_of to) statement.now)) }
         ensures stops { IfErr result (Stops self.old (schedules.Lie signer (mask_of to) statement.now)) }
         ensures count { OnOk result (count_of self.new ≡ count_of self.old) }

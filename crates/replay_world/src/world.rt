@@ -8,10 +8,10 @@ ghost use Rattle.replay_defs.specs.Worlds.{setting_of};
 ghost use Rattle.replay_defs.specs.Schedules as schedules;
 ghost use Rattle.replay_defs.specs.Schedules.{IsEvent};
 ghost use Rattle.schedule_file.specs.Views as views;
-ghost use Rattle.happenings.specs.Reported.{handed as handed_of, Tells};
+ghost use Rattle.happenings.specs.Reported.{handed as handed_of, WasReported};
 ghost use Rattle.reported_defs.specs.Reported as reported_defs;
 ghost use Rattle.replay_world.specs.Handing.{bytes_in, Marks};
-ghost use Rattle.replay_world.specs.Telling.{TellsStep, TellsOf, arrives_or_lost, frame_count, oldest_tells};
+ghost use Rattle.replay_world.specs.Telling.{TellsStep, ReportsOf, arrives_or_lost, frame_count, oldest_tells};
 ghost use Rattle.replay_world.specs.Stepping.{StepsAt, Refuses, Spends};
 
 use crate::fault::WorldFault;
@@ -204,7 +204,7 @@ impl World {
         // What is reported is what happens in the event of the definitions' world.
         ensures tells { OnOk result ((h : schedules.Header) (v : plain.World) → Shows h self.old v
             → IsEvent h.processes (views.event what.now)
-            → Tells reported.old (reported_defs.tells h v (views.event what.now)) reported.new) }
+            → WasReported reported.old (reported_defs.tells h v (views.event what.now)) reported.new) }
 
         // Else their world stops with this fault, or memory ran out.
         ensures stops { IfErr result (Stops self.old (views.event what.now)) }
@@ -224,7 +224,7 @@ impl World {
     ) -> Result<(), WorldFault>
         ensures tells { OnOk result ((h : schedules.Header) (v : plain.World) → Shows h self.old v
             → IsEvent h.processes (views.event what.now)
-            → Tells reported.old (reported_defs.tells h v (views.event what.now)) reported.new) }
+            → WasReported reported.old (reported_defs.tells h v (views.event what.now)) reported.new) }
         ensures happens { OnOk result (HappensYet self.old self.new (views.event what.now)) }
         ensures stops { IfErr result (Stops self.old (views.event what.now)) }
         ensures count { OnOk result (count_of self.new ≡ count_of self.old) }
@@ -286,7 +286,7 @@ impl World {
         event: &Event<'_>,
         reported: &mut Reported,
     ) -> Result<(), WorldFault>
-        ensures tells { OnOk result (TellsOf (λ h v. reported_defs.takes_in (setting_of h) v at (handed_of handed) (event_of event.now))
+        ensures tells { OnOk result (ReportsOf (λ h v. reported_defs.takes_in (setting_of h) v at (handed_of handed) (event_of event.now))
             self.old reported.old reported.new) }
         ensures becomes { OnOk result (Becomes (λ h v. plain.hands (setting_of h) v at (event_of event.now)) self.old self.new) }
         ensures exceeds { IfErr result (Exceeds (λ h v. plain.hands (setting_of h) v at (event_of event.now)) self.old) }
@@ -308,7 +308,7 @@ impl World {
         to: Pid,
         reported: &mut Reported,
     ) -> Result<(), WorldFault>
-        ensures tells { OnOk result (TellsOf (λ h v. reported_defs.gets_frame (setting_of h) v to frame) self.old reported.old reported.new) }
+        ensures tells { OnOk result (ReportsOf (λ h v. reported_defs.gets_frame (setting_of h) v to frame) self.old reported.old reported.new) }
         ensures becomes { OnOk result (Becomes (λ h v. plain.delivers (setting_of h) v to frame) self.old self.new) }
         ensures exceeds { IfErr result (Exceeds (λ h v. plain.delivers (setting_of h) v to frame) self.old) }
         ensures count { OnOk result (count_of self.new ≡ count_of self.old) }
@@ -341,7 +341,7 @@ impl World {
         to: Pid,
         reported: &mut Reported,
     ) -> Result<(), WorldFault>
-        ensures tells { OnOk result (TellsOf (λ h v. reported_defs.gets_frame (setting_of h) v to frame) self.old reported.old reported.new) }
+        ensures tells { OnOk result (ReportsOf (λ h v. reported_defs.gets_frame (setting_of h) v to frame) self.old reported.old reported.new) }
         ensures happens { OnOk result (HappensYet self.old self.new (schedules.Pass frame to)) }
         ensures stops { IfErr result (Stops self.old (schedules.Pass frame to)) }
         ensures count { OnOk result (count_of self.new ≡ count_of self.old) }
@@ -359,7 +359,7 @@ impl World {
 
     // The frame of a delivery is lost on its way.
     fn lose(&mut self, next: Delivery, reported: &mut Reported) -> Result<(), WorldFault>
-        ensures tells { OnOk result (TellsOf (λ h v. reported_defs.loses v (next.frame, next.to)) self.old reported.old reported.new) }
+        ensures tells { OnOk result (ReportsOf (λ h v. reported_defs.loses v (next.frame, next.to)) self.old reported.old reported.new) }
         ensures same { self.new ≡ self.old }
         ensures memory { IfErr result (λ fault. fault ≡ WorldFault.NoMemory) }
     {
@@ -382,7 +382,7 @@ impl World {
         next: Delivery,
         reported: &mut Reported,
     ) -> Result<(), WorldFault>
-        ensures tells { OnOk result (TellsOf (λ h v. arrives_or_lost (setting_of h) (mask_of to) v (next.frame, next.to))
+        ensures tells { OnOk result (ReportsOf (λ h v. arrives_or_lost (setting_of h) (mask_of to) v (next.frame, next.to))
             self.old reported.old reported.new) }
         ensures becomes { OnOk result (Becomes (λ h v. arrives (setting_of h) (mask_of to) v (next.frame, next.to)) self.old self.new) }
         ensures exceeds { IfErr result (Exceeds (λ h v. arrives (setting_of h) (mask_of to) v (next.frame, next.to)) self.old) }
@@ -402,7 +402,7 @@ impl World {
         to: PidSet,
         reported: &mut Reported,
     ) -> Result<bool, WorldFault>
-        ensures tells { OnOk result (TellsOf (λ h v. oldest_tells (setting_of h) (mask_of to) v) self.old reported.old reported.new) }
+        ensures tells { OnOk result (ReportsOf (λ h v. oldest_tells (setting_of h) (mask_of to) v) self.old reported.old reported.new) }
         ensures becomes { OnOk result (Becomes (λ h v. oldest_arrives (setting_of h) (mask_of to) v) self.old self.new) }
         ensures exceeds { IfErr result (Exceeds (λ h v. oldest_arrives (setting_of h) (mask_of to) v) self.old) }
         ensures waits { IfOk result (λ more. (h : schedules.Header) (v : plain.World) → Shows h self.old v
@@ -424,7 +424,7 @@ impl World {
         to: PidSet,
         reported: &mut Reported,
     ) -> Result<(), WorldFault>
-        ensures tells { OnOk result (TellsOf
+        ensures tells { OnOk result (ReportsOf
             (λ h v. reported_defs.drain_tells (setting_of h) (mask_of to) count v) self.old reported.old reported.new) }
         ensures becomes { OnOk result (Becomes (λ h v. plain.drains (setting_of h) (mask_of to) count v) self.old self.new) }
         ensures exceeds { IfErr result (Exceeds (λ h v. plain.drains (setting_of h) (mask_of to) count v) self.old) }

@@ -7,17 +7,16 @@ use Rattle.std.proofs.lemmas.List.{length-map}
 use Rattle.byte_defs.specs.Members.{has}
 use Rattle.text_defs.specs.Words.{space, line_text}
 use Rattle.message_defs.specs.Updates.{Value}
-use Rattle.group_defs.specs.Process.{Process, places_in}
+use Rattle.group_defs.specs.Process.{Process, liars_of, places_in}
 use Rattle.group_defs.specs.Settle.{phase_of}
 use Rattle.group_defs.specs.Accounts as reported
 use Rattle.group_defs.specs.Accounts.{account_of}
-use Rattle.replay_defs.specs.Reports.{phase_word, process_line, view_line, message_lines, liar_line, spent_line, halted_line, block, liars}
+use Rattle.replay_defs.specs.Reports.{process_line, view_line, message_lines, liar_line, spent_line, halted_line, block}
 use Rattle.accounts.specs.Views.{account}
 use Rattle.view_phases.specs.Phases.{word}
 use Rattle.report_lines.specs.declared.standing.Standing.{Standing}
 use Rattle.report_lines.specs.Phases.{phase_name}
-use Rattle.report_lines.specs.Standings.{StandsAs, halted_text}
-use Rattle.report_lines.proofs.Named.{phase-named}
+use Rattle.report_lines.specs.AsReported.{IsAsReported, halted_text}
 use Rattle.report_lines.proofs.Pieces.{behind}
 
 pub lengths-same : {A B X : Type 0} (inner : X → List A) (f : A → B) (xs : List X)
@@ -25,12 +24,12 @@ pub lengths-same : {A B X : Type 0} (inner : X → List A) (f : A → B) (xs : L
 lengths-same inner f [] = refl
 lengths-same inner f (x ∷ xs) = λ i. length-map (inner x) f i ∷ lengths-same inner f xs i
 
-module _ (t : Standing) (p : Process) (so : StandsAs t p) where
+module _ (t : Standing) (p : Process) (so : IsAsReported t p) where
   abbrev of : reported.Account
   of = account t.account.now
 
-  phase-is : phase_word p ≡ phase_name (word t.phase)
-  phase-is = phase-named p so.own ∙ ap phase_name so.phase
+  phase-is : phase_name (phase_of p) ≡ phase_name (word t.phase)
+  phase-is = ap phase_name so.phase
 
   abbrev line : reported.Account → List ℕ → ℕ → List ℕ
   line a w n = line_text (codes "process" ∷ decimal a.me ∷ w ∷ decimal (length a.views) ∷ decimal (sum (map length a.delivered)) ∷ decimal n
@@ -49,7 +48,7 @@ module _ (t : Standing) (p : Process) (so : StandsAs t p) where
       let is : line of w t.signed ≡ process_line p =
       ap (λ (a : reported.Account). line a w t.signed) (sym so.account)
       ∙ ap (λ (w : List ℕ). line (account_of p) w t.signed) (sym phase-is)
-      ∙ ap (line (account_of p) (phase_word p)) (sym so.signed) in
+      ∙ ap (line (account_of p) (phase_name (phase_of p))) (sym so.signed) in
       behind before name (counts views delivered) one new e f
       ∙ ap (λ (n : ℕ). before ++ (name ++ counts n delivered)) v
       ∙ ap (λ (n : ℕ). before ++ (name ++ counts (length of.views) n)) d
@@ -65,7 +64,7 @@ module _ (t : Standing) (p : Process) (so : StandsAs t p) where
   me-is : of.me ≡ p.me
   me-is = sym (ap (λ (a : reported.Account). a.me) so.account)
 
-  liars-are : flat_map (liar_line of.me) t.liars ≡ flat_map (liar_line p.me) (liars p)
+  liars-are : flat_map (liar_line of.me) t.liars ≡ flat_map (liar_line p.me) (liars_of p)
   liars-are = ap (λ (n : ℕ). flat_map (liar_line n) t.liars) me-is ∙ ap (flat_map (liar_line p.me)) (sym so.liars)
 
   abbrev spent_text : Bool → ℕ → List ℕ
@@ -102,7 +101,7 @@ module _ (t : Standing) (p : Process) (so : StandsAs t p) where
       (flat_map (view_line p.me) (account_of p).views) one two e (f ∙ ap (λ (t : List ℕ). one ++ t) views-are) in
       let third = behind before _ (flat_map (message_lines p.me) (enumerate_from 0 (account_of p).delivered)) two three second
       (g ∙ ap (λ (t : List ℕ). two ++ t) deliveries-are) in
-      let fourth = behind before _ (flat_map (liar_line p.me) (liars p)) three four third (h ∙ ap (λ (t : List ℕ). three ++ t) liars-are) in
+      let fourth = behind before _ (flat_map (liar_line p.me) (liars_of p)) three four third (h ∙ ap (λ (t : List ℕ). three ++ t) liars-are) in
       let fifth = behind before _ (spent_line keys_spent p.me) four five fourth
       (k ∙ ap (λ (t : List ℕ). four ++ t) (spent-is keys_spent spent has_it)) in
       behind before _ (halted_line p) five new fifth (l ∙ ap (λ (t : List ℕ). five ++ t) halted-is)

@@ -1,2 +1,2 @@
 pub mod Phases
-pub mod Standings
+pub mod AsReported

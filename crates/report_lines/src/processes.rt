@@ -8,7 +8,7 @@ ghost use Rattle.group_defs.specs.Process.{Process};
 ghost use Rattle.replay_defs.specs.Reports as plain;
 ghost use Rattle.view_phases.specs.Phases.{word};
 ghost use Rattle.report_lines.specs.Phases.{phase_name};
-ghost use Rattle.report_lines.specs.Standings.{StandsAs, halted_text};
+ghost use Rattle.report_lines.specs.AsReported.{IsAsReported, halted_text};
 
 use crate::histories::{push_deliveries, push_views};
 use crate::standing::Standing;
@@ -64,7 +64,7 @@ fn push_counts(out: &mut Vec<u8>, views: u64, delivered: u64, signed: u64) -> Re
 /// The first line of a process: its number and its phase, how many views it installed, how many messages it delivered in them, and how
 /// many statements it signed.
 pub fn push_process(out: &mut Vec<u8>, standing: &Standing<'_>) -> Result<(), NoMemory>
-    ensures { (p : Process) → StandsAs standing.now p → OnOk result (out.new.items ≡ out.old.items ++ plain.process_line p) }
+    ensures { (p : Process) → IsAsReported standing.now p → OnOk result (out.new.items ≡ out.old.items ++ plain.process_line p) }
 {
     let reported = standing.account;
     let views = reported.views.as_slice().len() as u64;
@@ -121,7 +121,7 @@ fn push_halted(out: &mut Vec<u8>, me: Pid, halted: Option<(u16, u16)>) -> Result
 
 /// All lines of a process: its first one, its views, what it delivered, its liars, whether its key was spent, and where it halted.
 pub fn push_block(out: &mut Vec<u8>, standing: &Standing<'_>, spent: bool) -> Result<(), NoMemory>
-    ensures { (keys_spent : List ℕ) (p : Process) → has keys_spent p.me ≡ spent → StandsAs standing.now p
+    ensures { (keys_spent : List ℕ) (p : Process) → has keys_spent p.me ≡ spent → IsAsReported standing.now p
         → OnOk result (out.new.items ≡ out.old.items ++ plain.block keys_spent p) }
 {
     let reported = standing.account;

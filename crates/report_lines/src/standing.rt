@@ -2,7 +2,7 @@ use accounts::Account;
 use rp_base::PidSet;
 use view_phases::PhaseWord;
 
-/// What a report says of a process. `StandsAs` of the specs relates it to a process of the definitions.
+/// What a report says of a process. `IsAsReported` of the specs relates it to a process of the definitions.
 #[derive(Clone, Copy)]
 pub struct Standing<'a> {
     /// What the process reports of itself.

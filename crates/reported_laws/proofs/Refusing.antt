@@ -48,18 +48,18 @@ all_keep p (o ∷ os) w = keeps-trans w (send_all p w o) (fold (send_all p) (sen
 -- ---- a change of a world, and what is told of it
 
 -- the new world refuses what is told beside what the old one refused, in the same event
-pub record Tells (v w : World) (reported : List Happening) : Type 0 where
+pub record HasReported (v w : World) (reported : List Happening) : Type 0 where
   pub refused : w.refused ≡ v.refused ++ flat_map (refusals_in v.count) reported
   pub count : w.count ≡ v.count
 
-silent : (v w : World) → Keeps v w → Tells v w []
+silent : (v w : World) → Keeps v w → HasReported v w []
 silent v w k = record { refused = k.refused ∙ sym (append-nil v.refused); count = k.count }
 
-same : (v : World) → Tells v v []
+same : (v : World) → HasReported v v []
 same v = record { refused = sym (append-nil v.refused); count = refl }
 
 -- one change after another
-both : (u v w : World) (xs ys : List Happening) → Tells u v xs → Tells v w ys → Tells u w (xs ++ ys)
+both : (u v w : World) (xs ys : List Happening) → HasReported u v xs → HasReported v w ys → HasReported u w (xs ++ ys)
 both u v w xs ys a b = record {
   refused =
       b.refused
@@ -96,7 +96,7 @@ turned s w p t o = record w {
 }
 
 steps_tell : (s : Setting) (w : World) (p : ℕ) (handed : Handed) (e : group.Event) (c : Player) → c.listed.process ≡ p
-    → Tells w (steps s w e c) (Takes p handed (length w.frames) (seen (outcome s c.now (turn_of c e))) ∷ [])
+    → HasReported w (steps s w e c) (Takes p handed (length w.frames) (seen (outcome s c.now (turn_of c e))) ∷ [])
 steps_tell s w p handed e c is =
     let t : Turn = turn_of c e in
     let o : Outcome = outcome s c.now t in
@@ -112,18 +112,18 @@ steps_tell s w p handed e c is =
 
 hands_tell_by : (s : Setting) (w : World) (p : ℕ) (handed : Handed) (e : group.Event) (r : Option Player)
     → ((c : Player) → r ≡ Some c → c.listed.process ≡ p)
-    → Tells w (elim r as (λ x. World) [ None ↦ w | Some c ↦ steps s w e c ])
+    → HasReported w (elim r as (λ x. World) [ None ↦ w | Some c ↦ steps s w e c ])
     (elim r as (λ x. List Happening) [ None ↦ [] | Some c ↦ Takes p handed (length w.frames) (seen (outcome s c.now (turn_of c e))) ∷ [] ])
 hands_tell_by s w p handed e None is = same w
 hands_tell_by s w p handed e (Some c) is = steps_tell s w p handed e c (is c refl)
 
-hands_tell : (s : Setting) (w : World) (p : ℕ) (handed : Handed) (e : group.Event) → Tells w (hands s w p e) (takes_in s w p handed e)
+hands_tell : (s : Setting) (w : World) (p : ℕ) (handed : Handed) (e : group.Event) → HasReported w (hands s w p e) (takes_in s w p handed e)
 hands_tell s w p handed e = hands_tell_by s w p handed e (player_of w p) (found_is p w.players)
 
 -- ---- deliveries
 
 delivers_tell_by : (s : Setting) (w : World) (to frame : ℕ) (r : Option Sent)
-    → Tells w (elim r as (λ x. World) [ None ↦ w | Some f ↦ hands_frame s w to f ])
+    → HasReported w (elim r as (λ x. World) [ None ↦ w | Some f ↦ hands_frame s w to f ])
     (elim r as (λ x. List Happening) [
       | None ↦ []
       | Some f ↦ takes_in s w to (Frame frame f.sender)
@@ -132,7 +132,7 @@ delivers_tell_by : (s : Setting) (w : World) (to frame : ℕ) (r : Option Sent)
 delivers_tell_by s w to frame None = same w
 delivers_tell_by s w to frame (Some f) = hands_tell s w to (Frame frame f.sender) (group.Hand f.sender (frame_said f.bytes))
 
-delivers_tell : (s : Setting) (w : World) (to frame : ℕ) → Tells w (delivers s w to frame) (gets_frame s w to frame)
+delivers_tell : (s : Setting) (w : World) (to frame : ℕ) → HasReported w (delivers s w to frame) (gets_frame s w to frame)
 delivers_tell s w to frame = delivers_tell_by s w to frame (slice_get w.frames frame)
 
 abbrev without_first : World → World
@@ -144,7 +144,7 @@ lost_tells w d None = refl
 lost_tells w d (Some f) = refl
 
 next_tell_by : (s : Setting) (w : World) (d : ℕ × ℕ) (b : Bool)
-    → Tells w (cond b (delivers s (without_first w) d.1 d.0) (without_first w))
+    → HasReported w (cond b (delivers s (without_first w) d.1 d.0) (without_first w))
     (cond b (gets_frame s (without_first w) d.1 d.0) (loses (without_first w) d))
 next_tell_by s w d true =
     let t = delivers_tell s (without_first w) d.1 d.0 in
@@ -155,20 +155,20 @@ next_tell_by s w d false = record {
   count = refl;
 }
 
-next_tell : (s : Setting) (mask : ℕ) (w : World) (d : ℕ × ℕ) → Tells w (next_delivery s mask w d) (next_tells s mask w d)
+next_tell : (s : Setting) (mask : ℕ) (w : World) (d : ℕ × ℕ) → HasReported w (next_delivery s mask w d) (next_tells s mask w d)
 next_tell s mask w d = next_tell_by s w d (is_in mask d.1)
 
 drain_tell_by : (s : Setting) (mask more : ℕ) (w : World) (r : Option (ℕ × ℕ))
-    → ((d : ℕ × ℕ) → Tells (next_delivery s mask w d) (drains s mask more (next_delivery s mask w d))
+    → ((d : ℕ × ℕ) → HasReported (next_delivery s mask w d) (drains s mask more (next_delivery s mask w d))
     (drain_tells s mask more (next_delivery s mask w d)))
-    → Tells w (elim r as (λ x. World) [ None ↦ w | Some d ↦ drains s mask more (next_delivery s mask w d) ])
+    → HasReported w (elim r as (λ x. World) [ None ↦ w | Some d ↦ drains s mask more (next_delivery s mask w d) ])
     (elim r as (λ x. List Happening) [ None ↦ [] | Some d ↦ next_tells s mask w d ++ drain_tells s mask more (next_delivery s mask w d) ])
 drain_tell_by s mask more w None rest = same w
 drain_tell_by s mask more w (Some d) rest =
     let v : World = next_delivery s mask w d in
     both w v (drains s mask more v) (next_tells s mask w d) (drain_tells s mask more v) (next_tell s mask w d) (rest d)
 
-drain_tell : (s : Setting) (mask n : ℕ) (w : World) → Tells w (drains s mask n w) (drain_tells s mask n w)
+drain_tell : (s : Setting) (mask n : ℕ) (w : World) → HasReported w (drains s mask n w) (drain_tells s mask n w)
 unfolding drains drain_tells
 drain_tell s mask zero w = same w
 drain_tell s mask (suc more) w = drain_tell_by s mask more w (slice_get w.pending 0)
@@ -177,7 +177,7 @@ drain_tell s mask (suc more) w = drain_tell_by s mask more w (slice_get w.pendin
 -- ---- lies
 
 lie_tell_by : (h : Header) (w : World) (mask : ℕ) (l : Listed) (st : Statement) (statement : List ℕ) (b : Bool)
-    → Tells w (cond b (fold (send l.process (is_in mask)) w (frames_of (Bundle (lie_claim h w l st ∷ [])))) w)
+    → HasReported w (cond b (fold (send l.process (is_in mask)) w (frames_of (Bundle (lie_claim h w l st ∷ [])))) w)
     (cond b (Lies l.process statement (length w.frames) (members mask) ∷ []) (Silent l.process ∷ []))
 lie_tell_by h w mask l st statement true =
     let kept = sends_keep l.process (is_in mask) (frames_of (Bundle (lie_claim h w l st ∷ []))) w in
@@ -185,13 +185,13 @@ lie_tell_by h w mask l st statement true =
 lie_tell_by h w mask l st statement false = record { refused = sym (append-nil w.refused); count = refl }
 
 read_tell_by : (h : Header) (w : World) (mask : ℕ) (l : Listed) (statement : List ℕ) (r : Result Statement FrameFault)
-    → Tells w (elim r as (λ x. World) [ Ok st ↦ sends_lie h w mask l st | Err fault ↦ w ])
+    → HasReported w (elim r as (λ x. World) [ Ok st ↦ sends_lie h w mask l st | Err fault ↦ w ])
     (elim r as (λ x. List Happening) [ Ok st ↦ lie_tells w mask l statement | Err fault ↦ [] ])
 read_tell_by h w mask l statement (Ok st) = lie_tell_by h w mask l st statement (nat_lt (lies_of w l.process) (key_total l.key))
 read_tell_by h w mask l statement (Err fault) = same w
 
 liar_tell_by : (h : Header) (w : World) (mask : ℕ) (statement : List ℕ) (r : Option Listed)
-    → Tells w (elim r as (λ x. World) [
+    → HasReported w (elim r as (λ x. World) [
       | None ↦ w
       | Some l ↦ elim (statement_of statement) as
           (λ x. World) [ Ok st ↦ sends_lie h w mask l st | Err fault ↦ w ]
@@ -205,15 +205,15 @@ liar_tell_by h w mask statement None = same w
 liar_tell_by h w mask statement (Some l) = read_tell_by h w mask l statement (statement_of statement)
 
 lie_tell : (h : Header) (w : World) (signer mask : ℕ) (statement : List ℕ)
-    → Tells w (lies h w signer mask statement) (liar_tells h w signer mask statement)
+    → HasReported w (lies h w signer mask statement) (liar_tells h w signer mask statement)
 lie_tell h w signer mask statement = liar_tell_by h w mask statement (find (λ l. l.process == signer) h.processes)
 
 -- ---- events
 
-onto : (v a x : World) (reported : List Happening) → Tells v a reported → (let r : Result World WorldFault = Ok a in r ≡ Ok x) → Tells v x reported
+onto : (v a x : World) (reported : List Happening) → HasReported v a reported → (let r : Result World WorldFault = Ok a in r ≡ Ok x) → HasReported v x reported
 onto v a x reported t e =
     let is : a ≡ x = cc in
-    let P : World → Type 0 = λ y. Tells v y reported in
+    let P : World → Type 0 = λ y. HasReported v y reported in
     subst P is t
 
 pass_tell : (h : Header) (w x : World) (to frame : ℕ) (r : Option Sent)
@@ -222,7 +222,7 @@ pass_tell : (h : Header) (w x : World) (to frame : ℕ) (r : Option Sent)
       | Some f ↦ Ok
           (hands_frame (setting_of h) w to f)
     ]) ≡ Ok x
-    → Tells w x (elim r as (λ y. List Happening) [
+    → HasReported w x (elim r as (λ y. List Happening) [
       | None ↦ []
       | Some f ↦ takes_in (setting_of h) w to (Frame frame f.sender)
           (group.Hand f.sender (frame_said f.bytes))
@@ -235,11 +235,11 @@ pass_tell h w x to frame (Some f) e =
 
 hands_on : (h : Header) (w x : World) (p : ℕ) (handed : Handed) (e : group.Event)
     → (let r : Result World WorldFault = Ok (hands (setting_of h) w p e) in r ≡ Ok x)
-    → Tells w x (takes_in (setting_of h) w p handed e)
+    → HasReported w x (takes_in (setting_of h) w p handed e)
 hands_on h w x p handed e is = onto w (hands (setting_of h) w p e) x (takes_in (setting_of h) w p handed e)
     (hands_tell (setting_of h) w p handed e) is
 
-happens_tell : (h : Header) (w x : World) (e : ScheduleEvent) → happens h w e ≡ Ok x → Tells w x (tells h w e)
+happens_tell : (h : Header) (w x : World) (e : ScheduleEvent) → happens h w e ≡ Ok x → HasReported w x (tells h w e)
 happens_tell h w x (Submit p payload) is = hands_on h w x p Payload (group.Submit payload) is
 happens_tell h w x (Raw to from bytes) is = hands_on h w x to (Bytes from) (group.Hand from (frame_said bytes)) is
 happens_tell h w x (Pass frame to) is = pass_tell h w x to frame (slice_get w.frames frame) is
@@ -265,7 +265,7 @@ counted y x None e =
     ap (λ (z : World). z.refused) (sym is)
 counted y x (Some bytes) e = absurd cc
 
-after_tell_by : (w x : World) (reported : List Happening) (r : Result World WorldFault) → ((y : World) → r ≡ Ok y → Tells w y reported)
+after_tell_by : (w x : World) (reported : List Happening) (r : Result World WorldFault) → ((y : World) → r ≡ Ok y → HasReported w y reported)
     → (r >>= counts) ≡ Ok x
     → x.refused ≡ w.refused ++ flat_map (refusals_in w.count) reported
 after_tell_by w x reported (Ok y) t e = counted y x (sum_above 0 y.frames) e ∙ (t y refl).refused

@@ -2,6 +2,6 @@
 pub use Rattle.claim_hearing.specs.Hearing.{Shares}
 pub use Rattle.claim_hearing.specs.Settings.{as_setting}
 pub use Rattle.kept_images.specs.Facts.{AreAccepted, AreConflicts, AreOwn, ArePerceived, IsHaltedSo, StandByPlace, own_delivered}
-pub use Rattle.restored_past.specs.Parts.{HasEnd, IsDecidedSo, Stands, heard_in}
+pub use Rattle.restored_past.specs.Parts.{HasEnd, IsDecidedSo, IsInView, heard_in}
 pub use Rattle.restored_past.specs.Installed.{installed_from}
-pub use Rattle.restored_place.specs.Places.{SignedOnce, StandsIn}
+pub use Rattle.restored_place.specs.Places.{SignedOnce, IsOwnSoFar}

@@ -8,9 +8,9 @@ use Rattle.group_defs.specs.Process.{Setting, Process}
 use Rattle.group_defs.specs.Certified.{named, own_orders, is_ended}
 use Rattle.pool_laws.proofs.Members.{All-mem}
 use Rattle.own_place.specs.declared.own.Own.{Own}
-use Rattle.own_place.specs.Owns.{HasSigned, Tells}
+use Rattle.own_place.specs.Owns.{HasSigned, IsOwnOf}
 use Rattle.own_place.specs.Words.{report, slot_key, same_slot_key}
-use Rattle.restored_place.specs.Places.{StandsIn, SignedOnce}
+use Rattle.restored_place.specs.Places.{IsOwnSoFar, SignedOnce}
 use Rattle.restored_place.specs.Walks.{greatest, readies, with_orders, with_slots}
 use Rattle.restored_place.proofs.Gathered.{greatest-is, readies-is, orders-are}
 use Rattle.restored_place.proofs.Slots.{slots-are}
@@ -52,7 +52,7 @@ module _ (p : Process) (once : SignedOnce p) (orders : List Batch) (after : Own)
         ∙ (λ i. map (λ m. name-count p.pool.view.number p.signed once.ranged once.once m i) p.pool.view.members));
   }
 
-  pub tells-so : (s : Setting) (before : Own) → Keeps before after → StandsIn s p before → is_ended p ≡ after.ended → Tells s p p.pool after
+  pub tells-so : (s : Setting) (before : Own) → Keeps before after → IsOwnSoFar s p before → is_ended p ≡ after.ended → IsOwnOf s p p.pool after
   tells-so s before keeps stands ended = record {
     pool = refl;
     number = stands.number ∙ sym keeps.number;

@@ -9,7 +9,7 @@ use Rattle.own_place.specs.declared.own.Own.{Own}
 use Rattle.own_place.specs.Owns.{HasDelivered}
 
 -- the place is that of this process in this setting, but for what it has signed
-pub record StandsIn (s : Setting) (p : Process) (own : Own) : Type 0 where
+pub record IsOwnSoFar (s : Setting) (p : Process) (own : Own) : Type 0 where
   pub number : p.me ≡ own.me
   pub position : rank_of p.pool.view p.me ≡ own.position
   pub keys : (q : ℕ) → has (keyed s) q ≡ has own.keyed q

@@ -1,9 +1,9 @@
 ghost use Rattle.std.specs.Prelude.{◌≡◌, ◌≤◌, length, map, OnOk};
 ghost use Rattle.group_defs.specs.Process.{Setting, Pool, Process, earlier as earlier_of, places_in};
 ghost use Rattle.group_defs.specs.Certified.{is_ended};
-ghost use Rattle.own_place.specs.Owns.{HasDelivered, Tells};
+ghost use Rattle.own_place.specs.Owns.{HasDelivered, IsOwnOf};
 ghost use Rattle.snapshot_rp.specs.Views.{delivered as plain};
-ghost use Rattle.restored_place.specs.Places.{StandsIn, SignedOnce};
+ghost use Rattle.restored_place.specs.Places.{IsOwnSoFar, SignedOnce};
 
 use crate::delivered::counts_of;
 use crate::orders::{count_orders, names_in, orders_in};
@@ -34,7 +34,7 @@ pub fn place_in(
     ensures delivered { (p : Process) → p.pool.view ≡ view.now → p.delivered ≡ map plain delivered.now → HasDelivered result p }
     ensures members { length result.counts.items ≡ length view.now.members }
     ensures stands { (s : Setting) (p : Process) → s.roster ≡ roster.now → p.pool.view ≡ view.now → p.me ≡ me
-        → p.delivered ≡ map plain delivered.now → earlier_of p ≡ earlier → StandsIn s p result }
+        → p.delivered ≡ map plain delivered.now → earlier_of p ≡ earlier → IsOwnSoFar s p result }
 {
     Own {
         me,
@@ -61,8 +61,8 @@ pub fn note_signed(
     signed: &[KeptClaim],
     ended: bool,
 ) -> Result<(), NoMemory>
-    ensures { (s : Setting) (p : Process) → StandsIn s p own.old → p.pool.view ≡ view.now → p.signed ≡ signed.now → SignedOnce p
-        → is_ended p ≡ ended → OnOk result (Tells s p p.pool own.new) }
+    ensures { (s : Setting) (p : Process) → IsOwnSoFar s p own.old → p.pool.view ≡ view.now → p.signed ≡ signed.now → SignedOnce p
+        → is_ended p ≡ ended → OnOk result (IsOwnOf s p p.pool own.new) }
 {
     let number = view.number();
     let orders = orders_in(alloc, number, signed)?;

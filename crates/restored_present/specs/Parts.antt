@@ -9,7 +9,7 @@ use Rattle.image_defs.specs.Images.{Image}
 use Rattle.image_defs.specs.Kept.{AreHeard}
 use Rattle.restored_left.specs.Facts.{AreAccepted, AreConflicts, AreOwn, ArePerceived, IsDecidedSo, IsHaltedSo, own_delivered}
 use Rattle.own_place.specs.declared.own.Own.{Own}
-use Rattle.own_place.specs.Owns.{Tells}
+use Rattle.own_place.specs.Owns.{IsOwnOf}
 use Rattle.restored_left.specs.Members.{IsIn, Phase}
 
 -- what is accepted, perceived, signed, and kept as conflicts, by a process in this view
@@ -41,5 +41,5 @@ pub record IsPresentSo (s : Setting) (p : Process) : Type 0 where
 -- the own place, the pool and the phase are those of this process
 pub record HasPresent (s : Setting) (p : Process) (own : Own) (h : Pool) (phase : Phase) : Type 0 where
   pub pool : p.pool ≡ h
-  pub place : Tells s p p.pool own
+  pub place : IsOwnOf s p p.pool own
   pub phase_is : IsIn phase p

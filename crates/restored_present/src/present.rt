@@ -7,7 +7,7 @@ ghost use Rattle.image_defs.specs.Images.{process_of, view_behind as behind};
 ghost use Rattle.image_defs.specs.Kept.{AreHeard};
 ghost use Rattle.group_defs.specs.Certified.{is_ended};
 ghost use Rattle.own_place.specs.Owns.{HasDelivered};
-ghost use Rattle.restored_left.specs.Facts.{IsDecidedSo, IsHaltedSo, Shares, SignedOnce, StandByPlace, Stands, StandsIn, heard_in};
+ghost use Rattle.restored_left.specs.Facts.{IsDecidedSo, IsHaltedSo, Shares, SignedOnce, StandByPlace, IsInView, IsOwnSoFar, heard_in};
 ghost use Rattle.restored_left.specs.Members.{IsIn};
 ghost use Rattle.snapshot_defs.specs.Ranges.{IsImage};
 ghost use Rattle.snapshot_defs.specs.declared.Version.TheVariants.{Two};
@@ -83,7 +83,7 @@ fn phase_in<V: Scheme>(
     ended: Option<u16>,
     places: u16,
 ) -> Option<Phase>
-    ensures is { (p : Process) → Stands p pool.now.pool image.now.me ended places (report image.now.decision)
+    ensures is { (p : Process) → IsInView p pool.now.pool image.now.me ended places (report image.now.decision)
         → IfSome result (λ phase. IsIn phase p) }
     ensures exact { IsTrue (is_some result) ↔ (IsDecidedSo pool.now.pool (map (λ k. k.0) judge.now.roster.now) image.now.me places
         (report image.now.decision) × IsHaltedSo image.now.halted places (report image.now.decision)) }
@@ -160,7 +160,7 @@ fn whole(
     signed: &[KeptClaim],
     ended: bool,
 ) -> Result<Present, NoMemory>
-    ensures { (s : Setting) (p : Process) → StandsIn s p own → p.pool.view ≡ view.now → p.signed ≡ signed.now → SignedOnce p
+    ensures { (s : Setting) (p : Process) → IsOwnSoFar s p own → p.pool.view ≡ view.now → p.signed ≡ signed.now → SignedOnce p
         → is_ended p ≡ ended → p.pool ≡ pool.pool → IsIn phase p
         → IfOk result (λ now. HasPresent s p now.own now.pool.pool now.phase) }
 {
@@ -180,11 +180,11 @@ fn phased<V: Scheme>(
 ) -> Result<Option<Present>, NoMemory>
     requires spelled { IsImage Two (image_as image.now) }
     ensures exact { (s : Setting) (p : Process) → Shares s (V.valid judge.now.scheme.now) judge.now.group.now judge.now.roster.now
-        → StandsIn s p own → p.me ≡ image.now.me → p.pool ≡ pool.pool → p.decision ≡ report image.now.decision → p.halted ≡ image.now.halted
+        → IsOwnSoFar s p own → p.me ≡ image.now.me → p.pool ≡ pool.pool → p.decision ≡ report image.now.decision → p.halted ≡ image.now.halted
         → IfOk result (λ r. IsTrue (is_some r) ↔ (IsDecidedSo p.pool (keyed s) p.me (places_in p.delivered) p.decision
         × IsHaltedSo p.halted (places_in p.delivered) p.decision)) }
     ensures is { (s : Setting) (p : Process) → Shares s (V.valid judge.now.scheme.now) judge.now.group.now judge.now.roster.now
-        → StandsIn s p own → p.me ≡ image.now.me → p.pool ≡ pool.pool → pool.pool.view ≡ view.now → p.signed ≡ image.now.signed.items → SignedOnce p
+        → IsOwnSoFar s p own → p.me ≡ image.now.me → p.pool ≡ pool.pool → pool.pool.view ≡ view.now → p.signed ≡ image.now.signed.items → SignedOnce p
         → p.decision ≡ report image.now.decision → p.halted ≡ image.now.halted
         → IfOk result (λ r. IfSome r (λ now. HasPresent s p now.own now.pool.pool now.phase)) }
 {

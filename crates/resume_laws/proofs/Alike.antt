@@ -8,7 +8,7 @@ use Rattle.journal_defs.specs.Entries.{Event, Entry, entry_bytes}
 use Rattle.node_defs.specs.Scripts.{Line, Of, Snap, Hand, Receive, Other, line_said, most_lines}
 use Rattle.node_defs.specs.Lines.{Stop, Ended, ReadFailed, WriteFailed, DiskFailed, BadLine, Full}
 use Rattle.node_defs.specs.Casts.{Cast, outcome_of, entry_for}
-use Rattle.node_defs.specs.Nodes.{Node, Leaving, Sends, Tells, Task, Take, Append, Flush, Say, Ask, Get, Word, Post, Mark, Answer, Done, Failed, Unremembered, Came, Broken, Said, Named, Digest, Change, Snapper, goes, ends, done_or, is_full, asks, after_step, after_get, after_task, after_leaving, after_line, after_read}
+use Rattle.node_defs.specs.Nodes.{Node, Leaving, Sends, Notes, Task, Take, Append, Flush, Say, Ask, Get, Word, Post, Mark, Answer, Done, Failed, Unremembered, Came, Broken, Said, Named, Digest, Change, Snapper, goes, ends, done_or, is_full, asks, after_step, after_get, after_task, after_leaving, after_line, after_read}
 use Rattle.node_defs.specs.Lives.{IsHosted}
 use Rattle.image_laws.specs.Alike.{IsAlike}
 use Rattle.resume_laws.specs.Resuming.{one_line_on}
@@ -182,14 +182,14 @@ module _ (c : Cast) (snap snap' : Snapper) (n : Node) (now : ℕ → Process) (k
   leaving-alike (Sends p q frame) (Said text sends) = none
   leaving-alike (Sends p q frame) (Named k) = none
   leaving-alike (Sends p q frame) (Digest d) = none
-  leaving-alike (Tells p note) Done = none
-  leaving-alike (Tells p note) Failed = none
-  leaving-alike (Tells p note) Unremembered = none
-  leaving-alike (Tells p note) (Came bytes) = none
-  leaving-alike (Tells p note) Broken = none
-  leaving-alike (Tells p note) (Said text sends) = record { same = refl; hosted = tt }
-  leaving-alike (Tells p note) (Named k) = none
-  leaving-alike (Tells p note) (Digest d) = none
+  leaving-alike (Notes p note) Done = none
+  leaving-alike (Notes p note) Failed = none
+  leaving-alike (Notes p note) Unremembered = none
+  leaving-alike (Notes p note) (Came bytes) = none
+  leaving-alike (Notes p note) Broken = none
+  leaving-alike (Notes p note) (Said text sends) = record { same = refl; hosted = tt }
+  leaving-alike (Notes p note) (Named k) = none
+  leaving-alike (Notes p note) (Digest d) = none
 
   pub read-alike : (a : Answer) → Alike c (after_read c n a) (after_read c m a)
   unfolding after_read

@@ -4,7 +4,7 @@ use Rattle.std.specs.Option.{option_map_or}
 use Rattle.std.proofs.lemmas.List.{map-append}
 use Rattle.group_defs.specs.Process.{Process}
 use Rattle.node_defs.specs.Casts.{Cast}
-use Rattle.node_defs.specs.Nodes.{Node, Call, Serves, TellsOf, Asks, Words, Rests, Answer, Done, Failed, Unremembered, Came, Broken, Said, Named, Digest, Snapper, call_of, answered, calls}
+use Rattle.node_defs.specs.Nodes.{Node, Call, Serves, NotesOf, Asks, Words, Rests, Answer, Done, Failed, Unremembered, Came, Broken, Said, Named, Digest, Snapper, call_of, answered, calls}
 use Rattle.node_traces.specs.Service.{Asked, one_asked, shows, asking, asked_by}
 use Rattle.resume_laws.specs.Traces.{answers_in}
 
@@ -15,7 +15,7 @@ module _ (c : Cast) (now now' : ℕ → Process) where
   shown-same : (call : Call) (a : Answer) → answers_in (option_map_or (λ shown. one_asked c shown call a) (shows c now call) [])
       ≡ answers_in (option_map_or (λ shown. one_asked c shown call a) (shows c now' call) [])
   shown-same Serves a = refl
-  shown-same (TellsOf p note) a = refl
+  shown-same (NotesOf p note) a = refl
   shown-same (Asks p e notes above) a = refl
   shown-same (Words p line) a = refl
   shown-same _ a = refl

@@ -9,5 +9,5 @@ AppendsPrefix old new bytes = (n : ℕ) × (n ≤ length bytes) × Appends old n
 
 -- The bytes were written and nothing else, or the sink failed and a prefix of them was written: by the count of faults
 -- before and now.
-abbrev pub Says : List ℕ → Option (List ℕ) → Option (List ℕ) → ℕ → ℕ → Type 0
-Says bytes old new before now = (Appends old new bytes × (now ≡ before)) ⊎ (AppendsPrefix old new bytes × Rose before now)
+abbrev pub WritesLine : List ℕ → Option (List ℕ) → Option (List ℕ) → ℕ → ℕ → Type 0
+WritesLine bytes old new before now = (Appends old new bytes × (now ≡ before)) ⊎ (AppendsPrefix old new bytes × Rose before now)

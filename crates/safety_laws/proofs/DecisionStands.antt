@@ -10,10 +10,10 @@ use Rattle.safety_laws.proofs.Induction.{Keeps, run-keeps}
 use Rattle.safety_laws.proofs.Installed.{decided_by-is}
 use Rattle.pool_laws.proofs.Tests.{none-some, option_or-is}
 
-abbrev Stands : Process → Type 0
-Stands p = (d : ℕ × Value) → p.decision ≡ Some d → is_certified p.pool (Ready p.pool.view.number d.0 d.1) ≡ true
+abbrev HasCertifiedReady : Process → Type 0
+HasCertifiedReady p = (d : ℕ × Value) → p.decision ≡ Some d → is_certified p.pool (Ready p.pool.view.number d.0 d.1) ≡ true
 
-keeps : (s : Setting) (from : List Claim) → Keeps s from Stands
+keeps : (s : Setting) (from : List Claim) → Keeps s from HasCertifiedReady
 keeps s from = record {
   accepts = λ p payload ok. ok;
   perceives = λ p e ok. ok;
@@ -31,4 +31,4 @@ keeps s from = record {
 }
 
 pub decision_stands : DecisionStands
-decision_stands s me limit turns = run-keeps s Stands turns (keeps s _) (start s me limit) (λ d e. absurd cc)
+decision_stands s me limit turns = run-keeps s HasCertifiedReady turns (keeps s _) (start s me limit) (λ d e. absurd cc)

@@ -10,7 +10,7 @@ use Rattle.replay_defs.specs.declared.Found.{Found}
 use Rattle.replay_defs.specs.declared.Fault.{Fault}
 use Rattle.replay_defs.specs.Schedules.{ScheduleEvent, Header, Schedule, steps_of, most_steps, most_bytes}
 use Rattle.replay_defs.specs.Reading.{Step, Roles, roles_of, byte_that, tag_at, header_at, event_at, whole_of, placed, placed_past_limit, whole_input, cut_input, too_long, schedule_of}
-use Rattle.replay_defs.specs.Pieces.{Reading, AreRead, within_limit, readable, HasGiven, Stands, IsShort, NoneWhole, IsWhole}
+use Rattle.replay_defs.specs.Pieces.{Reading, AreRead, within_limit, readable, HasGiven, WasFed, IsShort, NoneWhole, IsWhole}
 use Rattle.schedule_laws.specs.Laws.{FrontStands, FaultStands, EndIsWhole}
 use Rattle.schedule_laws.proofs.Steps.{Goes, later}
 use Rattle.schedule_laws.proofs.Wholes.{within_is}
@@ -107,9 +107,9 @@ read_fed h r fed more es size read =
     )
 
 -- with a header a piece joins those that wait
-pub stands_fed : (h : Header) (r : Reading) (fed more : List ℕ) (es : List ScheduleEvent) → r.header ≡ Some h → Stands r fed es
-    → Stands (record r { waiting = r.waiting ++ more }) (fed ++ more) es
-stands_fed h r fed more es has stands =
+pub fed_more : (h : Header) (r : Reading) (fed more : List ℕ) (es : List ScheduleEvent) → r.header ≡ Some h → WasFed r fed es
+    → WasFed (record r { waiting = r.waiting ++ more }) (fed ++ more) es
+fed_more h r fed more es has stands =
     let given : HasRead h r fed es = subst (λ (o : Option Header). HasGiven o r fed es) has stands.given in
     let longer : Reading = record r { waiting = r.waiting ++ more } in
     record {
@@ -120,14 +120,14 @@ stands_fed h r fed more es has stands =
     }
 
 -- without one all bytes wait
-pub nothing_taken : (r : Reading) (fed : List ℕ) (es : List ScheduleEvent) → r.header ≡ None → Stands r fed es
+pub nothing_taken : (r : Reading) (fed : List ℕ) (es : List ScheduleEvent) → r.header ≡ None → WasFed r fed es
     → (es ≡ []) × (r.waiting ≡ fed) × (r.steps ≡ most_steps) × IsErr (header_at fed)
 nothing_taken r fed es none stands = subst (λ (o : Option Header). HasGiven o r fed es) none stands.given
 
 -- the header is not whole yet
-pub stands_before : (r : Reading) → r.header ≡ None → r.fault ≡ None → r.taken ≡ 0 → r.steps ≡ most_steps → IsErr (header_at r.waiting)
-    → Stands r r.waiting []
-stands_before r none going taken steps partial = record {
+pub fed_before : (r : Reading) → r.header ≡ None → r.fault ≡ None → r.taken ≡ 0 → r.steps ≡ most_steps → IsErr (header_at r.waiting)
+    → WasFed r r.waiting []
+fed_before r none going taken steps partial = record {
   unstopped = going;
   size = omega (arith, taken);
   below = omega (arith, taken);
@@ -135,9 +135,9 @@ stands_before r none going taken steps partial = record {
 }
 
 -- the header became whole
-pub stands_behind : (h : Header) (r : Reading) (fed : List ℕ) → r.header ≡ Some h → r.fault ≡ None → r.steps ≡ most_steps
-    → length fed ≤ most_bytes → header_at fed ≡ Ok (h, r.waiting) → r.taken + length r.waiting ≡ length fed → Stands r fed []
-stands_behind h r fed has going steps small read size =
+pub fed_after : (h : Header) (r : Reading) (fed : List ℕ) → r.header ≡ Some h → r.fault ≡ None → r.steps ≡ most_steps
+    → length fed ≤ most_bytes → header_at fed ≡ Ok (h, r.waiting) → r.taken + length r.waiting ≡ length fed → WasFed r fed []
+fed_after h r fed has going steps small read size =
     let within : within_limit fed ≡ fed = take_all most_bytes fed small in
     let all : r.waiting ≡ readable r = sym (take_all (most_bytes - r.taken) r.waiting (omega (arith, size, small))) in
     let given : HasRead h r fed [] = (r.waiting, ap header_at within ∙ read, (sym steps, all)) in
@@ -152,10 +152,10 @@ stands_behind h r fed has going steps small read size =
 
 -- it is given
 pub stands_next : (h : Header) (r : Reading) (fed : List ℕ) (es : List ScheduleEvent) (e : ScheduleEvent) (after : List ℕ) (s : Reading)
-    → r.header ≡ Some h → Stands r fed es
+    → r.header ≡ Some h → WasFed r fed es
     → event_at (roles_of h.processes) r.steps (readable r) ≡ Ok (e, after)
     → s.header ≡ r.header → s.fault ≡ None → s.steps ≡ r.steps - steps_of e → s.taken ≤ most_bytes
-    → s.taken + length s.waiting ≡ r.taken + length r.waiting → readable s ≡ after → Stands s fed (es ++ e ∷ [])
+    → s.taken + length s.waiting ≡ r.taken + length r.waiting → readable s ≡ after → WasFed s fed (es ++ e ∷ [])
 stands_next h r fed es e after s has stands next same going steps below size rest =
     let given : HasRead h r fed es = subst (λ (o : Option Header). HasGiven o r fed es) has stands.given in
     let events = read_next (roles_of h.processes) most_steps given.0 es r.steps (readable r) e after given.2 next in
@@ -262,7 +262,7 @@ readable_length r fed size below =
 
 -- the next event's fault is the input's, however it goes on
 pub fault_of_event : (h : Header) (r : Reading) (fed : List ℕ) (es : List ScheduleEvent) (found : Found) → r.header ≡ Some h
-    → Stands r fed es
+    → WasFed r fed es
     → event_at (roles_of h.processes) r.steps (readable r) ≡ Err found → IsOther found.kind
     → (more : List ℕ) → schedule_of (fed ++ more) ≡ Err (record { kind = found.kind; place = r.taken + length (readable r) - found.left })
 fault_of_event h r fed es found has stands next other more =
@@ -316,7 +316,7 @@ cut_given h roles steps es (b ∷ rest) (Err found) e short =
     (no_more roles steps (b ∷ rest) es found (omega arith) e)
     ∙ ap (λ (kind : FaultKind). Err (placed_past_limit kind (placed most_bytes found))) short
 
-pub fault_of_length : (h : Header) (r : Reading) (fed : List ℕ) (es : List ScheduleEvent) → r.header ≡ Some h → Stands r fed es
+pub fault_of_length : (h : Header) (r : Reading) (fed : List ℕ) (es : List ScheduleEvent) → r.header ≡ Some h → WasFed r fed es
     → IsShort (event_at (roles_of h.processes) r.steps (readable r)) → most_bytes < length fed
     → (more : List ℕ) → schedule_of (fed ++ more) ≡ Err too_long
 fault_of_length h r fed es has stands short long more =
@@ -350,7 +350,7 @@ none_of_short roles steps (b ∷ rest) (Err found) others e short all =
     absurd cc
 
 -- the events that wait are those of a schedule, where the input is not too long
-pub ends_whole : (h : Header) (r : Reading) (fed : List ℕ) (es others : List ScheduleEvent) → r.header ≡ Some h → Stands r fed es
+pub ends_whole : (h : Header) (r : Reading) (fed : List ℕ) (es others : List ScheduleEvent) → r.header ≡ Some h → WasFed r fed es
     → all_from (roles_of h.processes) r.steps (readable r) ≡ Ok others → length fed ≤ most_bytes → IsWhole r fed es
 ends_whole h r fed es others has stands read small =
     let given : HasRead h r fed es = subst (λ (o : Option Header). HasGiven o r fed es) has stands.given in
@@ -370,7 +370,7 @@ ends_whole h r fed es others has stands read small =
     }
 
 -- else the input has the fault of the events that wait, or is too long
-pub ends_faulty : (h : Header) (r : Reading) (fed : List ℕ) (es : List ScheduleEvent) (found : Found) → r.header ≡ Some h → Stands r fed es
+pub ends_faulty : (h : Header) (r : Reading) (fed : List ℕ) (es : List ScheduleEvent) (found : Found) → r.header ≡ Some h → WasFed r fed es
     → all_from (roles_of h.processes) r.steps (readable r) ≡ Err found
     → (length fed ≤ most_bytes → schedule_of fed ≡ Err (placed (length fed) found))
     × (most_bytes < length fed → schedule_of fed ≡ Err (placed_past_limit found.kind (placed most_bytes found)))
@@ -382,7 +382,7 @@ ends_faulty h r fed es found has stands read =
       λ long. cut_is fed long ∙ ap cut_input whole,
     )
 
-pub ends_long : (h : Header) (r : Reading) (fed : List ℕ) (es others : List ScheduleEvent) → r.header ≡ Some h → Stands r fed es
+pub ends_long : (h : Header) (r : Reading) (fed : List ℕ) (es others : List ScheduleEvent) → r.header ≡ Some h → WasFed r fed es
     → all_from (roles_of h.processes) r.steps (readable r) ≡ Ok others → most_bytes < length fed → schedule_of fed ≡ Err too_long
 ends_long h r fed es others has stands read long =
     let given : HasRead h r fed es = subst (λ (o : Option Header). HasGiven o r fed es) has stands.given in

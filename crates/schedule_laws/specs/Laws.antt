@@ -6,7 +6,7 @@ use Rattle.replay_defs.specs.declared.FaultKind.TheVariants as faults
 use Rattle.replay_defs.specs.declared.Found.{Found}
 use Rattle.replay_defs.specs.Schedules.{ScheduleEvent, Header, Schedule, IsSchedule, schedule_bytes, most_bytes}
 use Rattle.replay_defs.specs.Reading.{Roles, roles_of, header_at, event_at, events_at, schedule_of}
-use Rattle.replay_defs.specs.Pieces.{Reading, Stands, IsWhole, readable}
+use Rattle.replay_defs.specs.Pieces.{Reading, WasFed, IsWhole, readable}
 
 -- the schedule that is read of bytes is in its ranges, and the bytes are its spelling
 abbrev pub ReadIsSpelled : Type 0
@@ -26,11 +26,11 @@ FrontStands = (roles : Roles) (left : ℕ) (bytes more rest : List ℕ)
 
 -- The next event's fault is that of the input, however it goes on, unless the bytes that were fed end within the event.
 abbrev pub FaultStands : Type 0
-FaultStands = (h : Header) (r : Reading) (fed : List ℕ) (es : List ScheduleEvent) (found : Found) → r.header ≡ Some h → Stands r fed es
+FaultStands = (h : Header) (r : Reading) (fed : List ℕ) (es : List ScheduleEvent) (found : Found) → r.header ≡ Some h → WasFed r fed es
     → event_at (roles_of h.processes) r.steps (readable r) ≡ Err found → (found.kind ≡ faults.Short → ⊥)
     → (more : List ℕ) → schedule_of (fed ++ more) ≡ Err (record { kind = found.kind; place = r.taken + length (readable r) - found.left })
 
 -- Where the events that wait are read to the end of an input within the limit, they and those that were given are the schedule's.
 abbrev pub EndIsWhole : Type 0
-EndIsWhole = (h : Header) (r : Reading) (fed : List ℕ) (es others : List ScheduleEvent) → r.header ≡ Some h → Stands r fed es
+EndIsWhole = (h : Header) (r : Reading) (fed : List ℕ) (es others : List ScheduleEvent) → r.header ≡ Some h → WasFed r fed es
     → events_at (roles_of h.processes) (length (readable r)) r.steps (readable r) ≡ Ok others → length fed ≤ most_bytes → IsWhole r fed es

@@ -6,7 +6,7 @@ use Rattle.replay_defs.specs.declared.Found.{Found}
 use Rattle.replay_defs.specs.declared.Fault.{Fault}
 use Rattle.replay_defs.specs.Schedules.{ScheduleEvent, Header, most_bytes}
 use Rattle.replay_defs.specs.Reading.{Roles, roles_of, header_at, events_at, placed, placed_past_limit, too_long, schedule_of}
-use Rattle.replay_defs.specs.Pieces.{Reading, Stands, readable, most_waiting}
+use Rattle.replay_defs.specs.Pieces.{Reading, WasFed, readable, most_waiting}
 use Rattle.schedule_laws.proofs.Pieces.{nothing_taken, ends_whole, ends_faulty, ends_long, ends_before}
 use Rattle.schedule_pieces.specs.Ends.{AreLast, EndsBy, EndsAt}
 use Rattle.schedule_pieces.specs.Readers.{SeesEnd}
@@ -15,7 +15,7 @@ use Rattle.schedule_pieces.proofs.Feeding.{window_is_less}
 faulty : (r : Reading) (h : Header) (found : Found) (fault : Fault) → r.header ≡ Some h
     → events_at (roles_of h.processes) (length (readable r)) r.steps (readable r) ≡ Err found
     → EndsBy (Some found) (r.taken + length r.waiting) (Some fault)
-    → (fed : List ℕ) (es : List ScheduleEvent) → Stands r fed es → schedule_of fed ≡ Err fault
+    → (fed : List ℕ) (es : List ScheduleEvent) → WasFed r fed es → schedule_of fed ≡ Err fault
 faulty r h found fault has read by fed es stands =
     let ends = ends_faulty h r fed es found has stands read in
     elim (cases_lt most_bytes (length fed)) [
@@ -42,7 +42,7 @@ sees_end r h of fault has known at =
 
 -- without a header the input has the header's fault
 pub ends_in_header : (r : Reading) (found : Found) → r.header ≡ None → length r.waiting ≤ most_waiting → header_at r.waiting ≡ Err found
-    → (fed : List ℕ) (es : List ScheduleEvent) → Stands r fed es → schedule_of fed ≡ Err (placed (length r.waiting) found)
+    → (fed : List ℕ) (es : List ScheduleEvent) → WasFed r fed es → schedule_of fed ≡ Err (placed (length r.waiting) found)
 ends_in_header r found none few read fed es stands =
     let all : r.waiting ≡ fed = (nothing_taken r fed es none stands).1 in
     ends_before fed found (omega (arith, few, window_is_less, ap (λ (t : List ℕ). length t) all))

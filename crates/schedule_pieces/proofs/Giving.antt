@@ -8,7 +8,7 @@ use Rattle.replay_defs.specs.declared.Found.{Found}
 use Rattle.replay_defs.specs.declared.Fault.{Fault}
 use Rattle.replay_defs.specs.Schedules.{ScheduleEvent, Header, steps_of, most_bytes}
 use Rattle.replay_defs.specs.Reading.{Step, Roles, roles_of, header_at, event_at, placed, too_long, schedule_of}
-use Rattle.replay_defs.specs.Pieces.{Reading, Stands, NoneWhole, IsShort, readable, most_waiting}
+use Rattle.replay_defs.specs.Pieces.{Reading, WasFed, NoneWhole, IsShort, readable, most_waiting}
 use Rattle.schedule_laws.proofs.Behind.{event_shrinks}
 use Rattle.schedule_laws.proofs.Pieces.{take_all, stands_next, nothing_taken, fault_of_event, fault_of_header, fault_of_length}
 use Rattle.schedule_pieces.specs.declared.front.NextEvent.{NextEvent}
@@ -49,7 +49,7 @@ no_header r found none taken few read kind less =
 -- the header's, however the input goes on
 pub header_stops : (r : Reading) (found : Found) (fault : Fault) → r.header ≡ None → length r.waiting ≤ most_waiting
     → header_at r.waiting ≡ Err found → Decides found (length r.waiting) (length r.waiting) (Some fault)
-    → (fed : List ℕ) (es : List ScheduleEvent) → Stands r fed es → (more : List ℕ) → schedule_of (fed ++ more) ≡ Err fault
+    → (fed : List ℕ) (es : List ScheduleEvent) → WasFed r fed es → (more : List ℕ) → schedule_of (fed ++ more) ≡ Err fault
 header_stops r found fault none few read (inl other) fed es stands more =
     let all : r.waiting ≡ fed = (nothing_taken r fed es none stands).1 in
     let place : fault ≡ placed (length fed) found = other.1 ∙ ap (λ (t : List ℕ). placed (length t) found) all in
@@ -60,7 +60,7 @@ header_stops r found fault none few read (inr long) fed es stands more = absurd 
 -- and the next event's
 event_stops : (r : Reading) (h : Header) (fault : Fault) → r.header ≡ Some h
     → EndsIn (roles_of h.processes) r.steps r.taken r.waiting (readable r) fault
-    → (fed : List ℕ) (es : List ScheduleEvent) → Stands r fed es → (more : List ℕ) → schedule_of (fed ++ more) ≡ Err fault
+    → (fed : List ℕ) (es : List ScheduleEvent) → WasFed r fed es → (more : List ℕ) → schedule_of (fed ++ more) ≡ Err fault
 event_stops r h fault has (found, read, inl other) fed es stands more =
     fault_of_event h r fed es found has stands read other.0 more ∙ ap (λ (f : Fault). Err f) (sym other.1)
 event_stops r h fault has (found, read, inr long) fed es stands more =
@@ -85,7 +85,7 @@ sees_event r h of has known read begins = sees r h has read
 
 pub gives_event : (r : Reading) (h : Header) (e : ScheduleEvent) (size : ℕ) → r.header ≡ Some h
     → event_at (roles_of h.processes) r.steps (readable r) ≡ Ok (e, drop size (readable r)) → size ≤ length (readable r)
-    → (fed : List ℕ) (es : List ScheduleEvent) → Stands r fed es → Stands (given size (steps_of e) r) fed (es ++ e ∷ [])
+    → (fed : List ℕ) (es : List ScheduleEvent) → WasFed r fed es → WasFed (given size (steps_of e) r) fed (es ++ e ∷ [])
 gives_event r h e size has read within fed es stands =
     let fits = length-take (most_bytes - r.taken) r.waiting in
     let below : r.taken + size ≤ most_bytes = omega (arith, within, fits, stands.below) in

@@ -4,7 +4,7 @@ use Rattle.replay_defs.specs.declared.Fault.{Fault}
 use Rattle.replay_defs.specs.Schedules as plain
 use Rattle.replay_defs.specs.Schedules.{Header, most_bytes}
 use Rattle.replay_defs.specs.Reading.{roles_of, schedule_of}
-use Rattle.replay_defs.specs.Pieces.{Reading, Stands, NoneWhole, IsWhole, EndsSo, readable, most_waiting}
+use Rattle.replay_defs.specs.Pieces.{Reading, WasFed, NoneWhole, IsWhole, EndsSo, readable, most_waiting}
 use Rattle.schedule_file.specs.declared.schedule.ScheduleEvent.{ScheduleEvent}
 use Rattle.schedule_file.specs.Views.{event}
 use Rattle.schedule_fields.specs.declared.fault.ScheduleFault.{ScheduleFault}
@@ -50,7 +50,7 @@ MovesOn r now (Err e) = (length now.waiting ≤ length r.waiting) × (now.header
 abbrev pub SeesFront : Reading → Result (Option NextEvent) Stop → Type 0
 SeesFront r (Ok (Some next)) = (h : Header) × (r.header ≡ Some h) × IsNext (roles_of h.processes) r.steps (readable r) next
 SeesFront r (Ok None) = NoneWhole r.header r × (r.taken + length r.waiting ≤ most_bytes) × (length r.waiting < 65551)
-SeesFront r (Err (stops.Fault fault)) = (fed : List ℕ) (es : List plain.ScheduleEvent) → Stands r fed es → (more : List ℕ)
+SeesFront r (Err (stops.Fault fault)) = (fed : List ℕ) (es : List plain.ScheduleEvent) → WasFed r fed es → (more : List ℕ)
     → schedule_of (fed ++ more) ≡ Err fault
 SeesFront r (Err stops.NoMemory) = Unit {0}
 
@@ -66,5 +66,5 @@ given size steps r = record {
 
 -- what is wrong with the input, where it ends here
 abbrev pub SeesEnd : Reading → Option Fault → Type 0
-SeesEnd r None = (fed : List ℕ) (es : List plain.ScheduleEvent) → Stands r fed es → IsWhole r fed es
-SeesEnd r (Some fault) = (fed : List ℕ) (es : List plain.ScheduleEvent) → Stands r fed es → schedule_of fed ≡ Err fault
+SeesEnd r None = (fed : List ℕ) (es : List plain.ScheduleEvent) → WasFed r fed es → IsWhole r fed es
+SeesEnd r (Some fault) = (fed : List ℕ) (es : List plain.ScheduleEvent) → WasFed r fed es → schedule_of fed ≡ Err fault

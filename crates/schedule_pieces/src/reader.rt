@@ -4,7 +4,7 @@ ghost use Rattle.replay_defs.specs.declared.Fault as faults;
 ghost use Rattle.replay_defs.specs.Schedules as schedules;
 ghost use Rattle.replay_defs.specs.Schedules.{steps_of};
 ghost use Rattle.replay_defs.specs.Reading as plain;
-ghost use Rattle.replay_defs.specs.Pieces.{Stands, GivesNext, readable, most_waiting};
+ghost use Rattle.replay_defs.specs.Pieces.{WasFed, GivesNext, readable, most_waiting};
 ghost use Rattle.schedule_file.specs.Views as views;
 ghost use Rattle.schedule_events.specs.Seen as seen;
 ghost use Rattle.schedule_pieces.specs.Readers.{SeesFront, SeesEnd, Ends, IsFault, LeavesRoom, MovesOn, given, plainly};
@@ -79,7 +79,7 @@ impl ScheduleReader {
     /// # Errors
     /// [`NoMemory`] where the room is refused.
     pub fn new(alloc: Global) -> Result<ScheduleReader, NoMemory>
-        ensures { IfOk result (λ r. Stands r [] []) }
+        ensures { IfOk result (λ r. WasFed r [] []) }
     {
         let window = Window::new(alloc)?;
         let header = empty_header(alloc)?;
@@ -107,8 +107,8 @@ impl ScheduleReader {
         requires { length self.old.waiting + length piece.now ≤ most_waiting }
 
         // What was given so far stays, and the piece follows what was fed.
-        ensures stands { (fed : List ℕ) (es : List schedules.ScheduleEvent) → Stands self.old fed es
-            → Stands self.new (fed ++ piece.now) es }
+        ensures stands { (fed : List ℕ) (es : List schedules.ScheduleEvent) → WasFed self.old fed es
+            → WasFed self.new (fed ++ piece.now) es }
         ensures stopped { IsSome self.old.fault → self.new ≡ self.old }
     {
         if self.fault.is_some() {
@@ -145,7 +145,7 @@ impl ScheduleReader {
     /// The fault of the input, however it goes on, and the same from then on; [`ScheduleFault::NoMemory`] where memory is refused, and
     /// then the same event may be asked for again.
     pub fn next(&mut self) -> Result<Option<ScheduleEvent>, ScheduleFault>
-        ensures gives { (fed : List ℕ) (es : List schedules.ScheduleEvent) → Stands self.old fed es
+        ensures gives { (fed : List ℕ) (es : List schedules.ScheduleEvent) → WasFed self.old fed es
             → GivesNext fed es self.new (plainly result) }
         ensures room { LeavesRoom self.new result }
         ensures moves { MovesOn self.old self.new result }
@@ -167,7 +167,7 @@ impl ScheduleReader {
     /// # Errors
     /// The fault of the bytes that were fed, as a whole input.
     pub fn end(&self) -> Result<(), ScheduleFault>
-        ensures ends { (fed : List ℕ) (es : List schedules.ScheduleEvent) → Stands self.now fed es → Ends self.now fed es result }
+        ensures ends { (fed : List ℕ) (es : List schedules.ScheduleEvent) → WasFed self.now fed es → Ends self.now fed es result }
         ensures again { (f : faults.Fault) → self.now.fault ≡ Some f → IsFault f result }
     {
         match self.last_fault() {

@@ -2,7 +2,7 @@
 use Rattle.std.proofs.Common.{◌≡◌, inl, inr, ℕ, suc, zero, ◌+◌, ◌==◌, List, [], ◌∷◌, ◌++◌, Option, None, refl, sym, subst}
 use Rattle.node_defs.specs.Scripts.{line_said, most_lines}
 use Rattle.node_defs.specs.Casts.{Cast, outcome_of}
-use Rattle.node_defs.specs.Nodes.{Node, Opening, Bind, Greet, Serve, Finish, Leaving, Sends, Tells, Task, Take, Append, Flush, Say, Ask, Get, Word, Post, Mark, Answer, Done, Failed, Unremembered, Came, Broken, Said, Named, Digest, Snapper, after_task, after_leaving, after_read, call_of, answered}
+use Rattle.node_defs.specs.Nodes.{Node, Opening, Bind, Greet, Serve, Finish, Leaving, Sends, Notes, Task, Take, Append, Flush, Say, Ask, Get, Word, Post, Mark, Answer, Done, Failed, Unremembered, Came, Broken, Said, Named, Digest, Snapper, after_task, after_leaving, after_read, call_of, answered}
 use Rattle.node_traces.specs.Outside.{SinkSeen, SinkStep, SourceSeen, SourceStep, AtEnd}
 use Rattle.script_laws.proofs.Calm.{Caused, calm, same-sink, same-source, still, goes-calm, write-failed, no-memory, step-calm, line-calm}
 
@@ -35,8 +35,8 @@ module _ (c : Cast) (snap : Snapper) (most : ℕ) (n : Node) (k l : SinkSeen) (s
   by-leaving o ls ts Unremembered sink source = no-memory most k l s t (call_of c (at n [] (o ∷ ls) ts)) sink source
   by-leaving (Sends p q frame) ls ts Done sink source = still None k l s t goes-calm sink source
   by-leaving (Sends p q frame) ls ts _ sink source = still None k l s t goes-calm sink source
-  by-leaving (Tells p note) ls ts (Said text sends) sink source = still None k l s t goes-calm sink source
-  by-leaving (Tells p note) ls ts _ sink source = still None k l s t goes-calm sink source
+  by-leaving (Notes p note) ls ts (Said text sends) sink source = still None k l s t goes-calm sink source
+  by-leaving (Notes p note) ls ts _ sink source = still None k l s t goes-calm sink source
 
   by-get : (p : ℕ) (most_gets count : ℕ) (ts : List Task) (a : Answer) → Is (at n [] [] (Get p most_gets count ∷ ts)) a
   unfolding call_of answered after_task

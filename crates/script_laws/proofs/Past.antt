@@ -5,7 +5,7 @@ use Rattle.journal_defs.specs.Entries.{Event, entry_bytes}
 use Rattle.node_defs.specs.Scripts.{Line, line_said, most_lines}
 use Rattle.node_defs.specs.Lines.{Stop, BindFailed, BadLine, Full}
 use Rattle.node_defs.specs.Casts.{Cast, entry_for, outcome_of}
-use Rattle.node_defs.specs.Nodes.{Node, Opening, Bind, Greet, Serve, Finish, Leaving, Sends, Tells, Task, Take, Append, Flush, Say, Ask, Get, Word, Post, Mark, Answer, Done, Failed, Unremembered, Came, Broken, Said, Named, Digest, Snapper, ends, goes, is_full, after_step, after_line, after_task, after_leaving, after_read, call_of, answered, run}
+use Rattle.node_defs.specs.Nodes.{Node, Opening, Bind, Greet, Serve, Finish, Leaving, Sends, Notes, Task, Take, Append, Flush, Say, Ask, Get, Word, Post, Mark, Answer, Done, Failed, Unremembered, Came, Broken, Said, Named, Digest, Snapper, ends, goes, is_full, after_step, after_line, after_task, after_leaving, after_read, call_of, answered, run}
 use Rattle.node_traces.specs.Outside.{LinkSeen, LinkStep}
 use Rattle.script_laws.specs.Faults.{ByCount}
 use Rattle.script_laws.proofs.Calls.{at}
@@ -58,8 +58,8 @@ module _ (c : Cast) (snap : Snapper) (n : Node) where
   past-leaving o ls ts Unremembered = ((λ e. absurd cc), refl)
   past-leaving (Sends p q frame) ls ts Done = ((λ e. absurd cc), refl)
   past-leaving (Sends p q frame) ls ts _ = ((λ e. absurd cc), refl)
-  past-leaving (Tells p note) ls ts (Said text sends) = ((λ e. absurd cc), refl)
-  past-leaving (Tells p note) ls ts _ = ((λ e. absurd cc), refl)
+  past-leaving (Notes p note) ls ts (Said text sends) = ((λ e. absurd cc), refl)
+  past-leaving (Notes p note) ls ts _ = ((λ e. absurd cc), refl)
 
   past-get : (p m count : ℕ) (ts : List Task) (a : Answer) → IsPast (answered c snap (at n [] [] (Get p m count ∷ ts)) a)
   unfolding answered after_task

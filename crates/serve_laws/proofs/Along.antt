@@ -16,7 +16,7 @@ use Rattle.node_defs.specs.Casts.{Cast, cast_of, entries_of, entry_for, from_sta
 use Rattle.node_defs.specs.Lines.{Full, Stop, WriteFailed}
 use Rattle.node_defs.specs.Lives.{IsSound}
 use Rattle.node_defs.specs.Scripts.{Line, line_said, most_lines}
-use Rattle.node_defs.specs.Nodes.{Answer, Append, Appends, Ask, Asks, Bind, Binds, Broken, Call, Came, Change, Digest, Done, Failed, Finish, Finishes, Flush, Get, Greet, Leaving, Mark, Marks, Named, Node, Opening, Post, ReadsLine, ReceivesOn, Rests, Said, Say, Sends, SendsTo, Serve, Serves, Snapper, Steps, Take, Task, Tells, TellsOf, Unremembered, Word, Words, Writes, after_get, after_leaving, after_line, after_read, after_step, after_task, answered, by_answer, by_leaving, by_opening, by_tasks, call_of, call_of_leaving, call_of_opening, call_of_tasks, changed, counts, done_or, if_fits, is_full, leaving_call, new_entry, new_leaving, opened_one, opening_call, task_call, unless_stopped, with_turn}
+use Rattle.node_defs.specs.Nodes.{Answer, Append, Appends, Ask, Asks, Bind, Binds, Broken, Call, Came, Change, Digest, Done, Failed, Finish, Finishes, Flush, Get, Greet, Leaving, Mark, Marks, Named, Node, Opening, Post, ReadsLine, ReceivesOn, Rests, Said, Say, Sends, SendsTo, Serve, Serves, Snapper, Steps, Take, Task, Notes, NotesOf, Unremembered, Word, Words, Writes, after_get, after_leaving, after_line, after_read, after_step, after_task, answered, by_answer, by_leaving, by_opening, by_tasks, call_of, call_of_leaving, call_of_opening, call_of_tasks, changed, counts, done_or, if_fits, is_full, leaving_call, new_entry, new_leaving, opened_one, opening_call, task_call, unless_stopped, with_turn}
 use Rattle.node_traces.specs.Service.{Asked, asking, shows}
 use Rattle.node_traces.proofs.Service.{asks-nothing}
 use Rattle.node_laws.proofs.Entries.{entries-append, live-is-kept, other-entry, own-entry}
@@ -27,7 +27,7 @@ use Rattle.store_defs.specs.Serving.{Place, Server, after_note, after_notes, ser
 use Rattle.store_defs.specs.Services.{line_worded, place_of, worded}
 use Rattle.store_defs.specs.Words as words
 use Rattle.following_laws.specs.Runs as runs
-use Rattle.following_laws.specs.Runs.{Happens, Moment, Says, Step, reached, turns_in}
+use Rattle.following_laws.specs.Runs.{Happens, Moment, TakesWord, Step, reached, turns_in}
 use Rattle.following_laws.proofs.Replying.{notes-more}
 use Rattle.store_service.specs.Service.{AreServed, Serving, after_all, after_call, after_own, serving, worded_of}
 use Rattle.store_service.specs.Service as service
@@ -49,7 +49,7 @@ reached-on kit h m (x ∷ xs) ys = reached-on kit h (runs.after_step (setting_of
 pub steps-join : (front back : List Step) → turns_in (front ++ back) ≡ turns_in front ++ turns_in back
 steps-join [] back = refl
 steps-join (Happens t ∷ front) back = ap (λ ts. t ∷ ts) (steps-join front back)
-steps-join (Says word ∷ front) back = steps-join front back
+steps-join (TakesWord word ∷ front) back = steps-join front back
 
 pub turns-join : (s : Setting) (p : Process) (es fs : List Entry) → turns_from s p (es ++ fs) ≡ turns_from s p es ++ turns_from s (taken_up s p es) fs
 unfolding turns_from run
@@ -301,8 +301,8 @@ module _ (kit : Kit) (version : Version) (snap : Snapper) (h : Host) (is : IsKit
   }
 
   reported-one : (n : Node) (xs : List Serving) (done : List Step) (r : ℕ) (note : Note) (ls : List Leaving) (text : List ℕ)
-      (sends : List (ℕ × List ℕ)) → n.leaving ≡ Tells r note ∷ ls → Holds n (Some xs) done
-      → Next n (Some xs) done (TellsOf r note) (Said text sends) (if_fits c n ls n.tasks (after_leaving n (Tells r note) (Said text sends)))
+      (sends : List (ℕ × List ℕ)) → n.leaving ≡ Notes r note ∷ ls → Holds n (Some xs) done
+      → Next n (Some xs) done (NotesOf r note) (Said text sends) (if_fits c n ls n.tasks (after_leaving n (Notes r note) (Said text sends)))
   unfolding after_leaving after_notes
   reported-one n xs done r note ls text sends e holds = λ served. subst (Holds n' (Some ys)) (sym (append-nil done)) (record {
     process = holds.process;
@@ -311,13 +311,13 @@ module _ (kit : Kit) (version : Version) (snap : Snapper) (h : Host) (is : IsKit
   })
     where
       i : Asked
-      i = record { cast = c; shown = n.now r ∷ []; call = TellsOf r note; answer = Said text sends }
+      i = record { cast = c; shown = n.now r ∷ []; call = NotesOf r note; answer = Said text sends }
 
       ys : List Serving
-      ys = after_call xs c (n.now r ∷ []) (TellsOf r note)
+      ys = after_call xs c (n.now r ∷ []) (NotesOf r note)
 
       n' : Node
-      n' = if_fits c n ls n.tasks (after_leaving n (Tells r note) (Said text sends))
+      n' = if_fits c n ls n.tasks (after_leaving n (Notes r note) (Said text sends))
 
       t : Server
       t = holds.served.server
@@ -368,20 +368,20 @@ module _ (kit : Kit) (version : Version) (snap : Snapper) (h : Host) (is : IsKit
       (no-steps (n.now p) (SendsTo (c.port to) (c.seal r to frame)) a refl refl)
       (like n _ o done (fits-like n ls n.tasks (after_leaving n (Sends r to frame) a) (leaving-takes-none n (Sends r to frame) a)
       (sym (ap (waiting p) e))) holds)
-  leaves-next n None done (Tells r note) ls a over e holds = absurd (subst Waits over holds.served.waits)
-  leaves-next n (Some xs) done (Tells r note) ls Done over e holds = λ served. absurd (let never = served.0 in cc)
-  leaves-next n (Some xs) done (Tells r note) ls Failed over e holds = λ served. absurd (let never = served.0 in cc)
-  leaves-next n (Some xs) done (Tells r note) ls Unremembered over e holds = λ served.
-      subst (Holds (if_fits c n ls n.tasks (after_leaving n (Tells r note) Unremembered)) (Some xs)) (sym (append-nil done))
+  leaves-next n None done (Notes r note) ls a over e holds = absurd (subst Waits over holds.served.waits)
+  leaves-next n (Some xs) done (Notes r note) ls Done over e holds = λ served. absurd (let never = served.0 in cc)
+  leaves-next n (Some xs) done (Notes r note) ls Failed over e holds = λ served. absurd (let never = served.0 in cc)
+  leaves-next n (Some xs) done (Notes r note) ls Unremembered over e holds = λ served.
+      subst (Holds (if_fits c n ls n.tasks (after_leaving n (Notes r note) Unremembered)) (Some xs)) (sym (append-nil done))
       (subst (λ (x : Option Change). Holds (if_fits c n ls n.tasks x) (Some xs) done) nothing holds)
     where
-      nothing : (let o : Option Change = None in o) ≡ after_leaving n (Tells r note) Unremembered
+      nothing : (let o : Option Change = None in o) ≡ after_leaving n (Notes r note) Unremembered
       nothing = refl
-  leaves-next n (Some xs) done (Tells r note) ls (Came bytes) over e holds = λ served. absurd (let never = served.0 in cc)
-  leaves-next n (Some xs) done (Tells r note) ls Broken over e holds = λ served. absurd (let never = served.0 in cc)
-  leaves-next n (Some xs) done (Tells r note) ls (Said text sends) over e holds = reported-one n xs done r note ls text sends e holds
-  leaves-next n (Some xs) done (Tells r note) ls (Named s) over e holds = λ served. absurd (let never = served.0 in cc)
-  leaves-next n (Some xs) done (Tells r note) ls (Digest digest) over e holds = λ served. absurd (let never = served.0 in cc)
+  leaves-next n (Some xs) done (Notes r note) ls (Came bytes) over e holds = λ served. absurd (let never = served.0 in cc)
+  leaves-next n (Some xs) done (Notes r note) ls Broken over e holds = λ served. absurd (let never = served.0 in cc)
+  leaves-next n (Some xs) done (Notes r note) ls (Said text sends) over e holds = reported-one n xs done r note ls text sends e holds
+  leaves-next n (Some xs) done (Notes r note) ls (Named s) over e holds = λ served. absurd (let never = served.0 in cc)
+  leaves-next n (Some xs) done (Notes r note) ls (Digest digest) over e holds = λ served. absurd (let never = served.0 in cc)
 
   -- ---- tasks
 
@@ -451,12 +451,12 @@ module _ (kit : Kit) (version : Version) (snap : Snapper) (h : Host) (is : IsKit
 
     -- it has this word
     with-word : (n' : Node) → IsLike n n' → n.leaving ≡ [] → (r == p) ≡ true → (w : words.Word) → word_in kit line ≡ Some w
-        → Holds n' (Some ys) (done ++ Says w ∷ [])
+        → Holds n' (Some ys) (done ++ TakesWord w ∷ [])
     unfolding reached runs.after_step
     with-word n' l none same w e = record {
       process = ap (λ (m : Moment). m.process) after ∙ holds.process ∙ sym l.now;
       turns = l.kept ∙ holds.turns
-          ∙ ap (λ (ts : List Turn). turns0 ++ ts) (sym (append-nil (turns_in done)) ∙ sym (steps-join done (Says w ∷ [])));
+          ∙ ap (λ (ts : List Turn). turns0 ++ ts) (sym (append-nil (turns_in done)) ∙ sym (steps-join done (TakesWord w ∷ [])));
       served = record {
         server = (worded valid q here t w).1;
         serves = own-line (Some w) same e;
@@ -474,18 +474,18 @@ module _ (kit : Kit) (version : Version) (snap : Snapper) (h : Host) (is : IsKit
         is-settled : t ≡ (at done).server
         is-settled = settled done t (waiting p n.leaving) holds.served.so (ap (waiting p) none)
 
-        after : at (done ++ Says w ∷ []) ≡ runs.after_step (setting_of kit) q (at done) (Says w)
-        after = reached-on kit h m0 done (Says w ∷ [])
+        after : at (done ++ TakesWord w ∷ []) ≡ runs.after_step (setting_of kit) q (at done) (TakesWord w)
+        after = reached-on kit h m0 done (TakesWord w ∷ [])
 
     says-word : (n' : Node) → IsLike n n' → n.leaving ≡ []
-        → Holds n' (Some ys) (done ++ (if r == p then map Says (option_to_list (word_in kit line)) else []))
+        → Holds n' (Some ys) (done ++ (if r == p then map TakesWord (option_to_list (word_in kit line)) else []))
     says-word n' l none = go (r == p) refl
       where
-        by : (o : Option words.Word) → (r == p) ≡ true → word_in kit line ≡ o → Holds n' (Some ys) (done ++ map Says (option_to_list o))
+        by : (o : Option words.Word) → (r == p) ≡ true → word_in kit line ≡ o → Holds n' (Some ys) (done ++ map TakesWord (option_to_list o))
         by None at e = subst (Holds n' (Some ys)) (sym (append-nil done)) (same-server n n' xs ys done l (wordless at e) holds)
         by (Some w) at e = with-word n' l none at w e
 
-        go : (b : Bool) → (r == p) ≡ b → Holds n' (Some ys) (done ++ (if b then map Says (option_to_list (word_in kit line)) else []))
+        go : (b : Bool) → (r == p) ≡ b → Holds n' (Some ys) (done ++ (if b then map TakesWord (option_to_list (word_in kit line)) else []))
         go true at = by (word_in kit line) at refl
         go false at = subst (Holds n' (Some ys)) (sym (append-nil done)) (same-server n n' xs ys done l (others-line at) holds)
 

@@ -6,7 +6,7 @@ use Rattle.journal_defs.specs.Entries.{Event}
 use Rattle.node_defs.specs.Casts.{Cast, entry_for, letters_of, outcome_of}
 use Rattle.node_defs.specs.Lines.{Stop, WriteFailed}
 use Rattle.node_defs.specs.Scripts.{Line, line_said, most_lines}
-use Rattle.node_defs.specs.Nodes.{Answer, Append, Ask, Broken, Came, Change, Digest, Done, Failed, Flush, Get, Leaving, Mark, Named, Node, Post, Said, Say, Sends, Snapper, Take, Task, Tells, Unremembered, Word, after_get, after_leaving, after_line, after_read, after_step, after_task, done_or, is_full, leaving_of}
+use Rattle.node_defs.specs.Nodes.{Answer, Append, Ask, Broken, Came, Change, Digest, Done, Failed, Flush, Get, Leaving, Mark, Named, Node, Post, Said, Say, Sends, Snapper, Take, Task, Notes, Unremembered, Word, after_get, after_leaving, after_line, after_read, after_step, after_task, done_or, is_full, leaving_of}
 
 -- ---- notes
 
@@ -14,23 +14,23 @@ use Rattle.node_defs.specs.Nodes.{Answer, Append, Ask, Broken, Came, Change, Dig
 abbrev pub waiting : ℕ → List Leaving → List Note
 waiting p [] = []
 waiting p (Sends from to frame ∷ ls) = waiting p ls
-waiting p (Tells q note ∷ ls) = if q == p then note ∷ waiting p ls else waiting p ls
+waiting p (Notes q note ∷ ls) = if q == p then note ∷ waiting p ls else waiting p ls
 
 sent-wait : (p from : ℕ) (letters : List (ℕ × List ℕ)) (ls : List Leaving) → waiting p (map (λ l. Sends from l.0 l.1) letters ++ ls) ≡ waiting p ls
 sent-wait p from [] ls = refl
 sent-wait p from (l ∷ letters) ls = sent-wait p from letters ls
 
-notes-wait : (p q : ℕ) (notes : List Note) (b : Bool) → (q == p) ≡ b → waiting p (map (Tells q) notes) ≡ (if b then notes else [])
+notes-wait : (p q : ℕ) (notes : List Note) (b : Bool) → (q == p) ≡ b → waiting p (map (Notes q) notes) ≡ (if b then notes else [])
 notes-wait p q [] true t = refl
 notes-wait p q [] false t = refl
 notes-wait p q (note ∷ notes) true t =
-    ap (λ (b : Bool). if b then note ∷ waiting p (map (Tells q) notes) else waiting p (map (Tells q) notes)) t
+    ap (λ (b : Bool). if b then note ∷ waiting p (map (Notes q) notes) else waiting p (map (Notes q) notes)) t
     ∙ ap (λ (ns : List Note). note ∷ ns) (notes-wait p q notes true t)
 notes-wait p q (note ∷ notes) false t =
-    ap (λ (b : Bool). if b then note ∷ waiting p (map (Tells q) notes) else waiting p (map (Tells q) notes)) t ∙ notes-wait p q notes false t
+    ap (λ (b : Bool). if b then note ∷ waiting p (map (Notes q) notes) else waiting p (map (Notes q) notes)) t ∙ notes-wait p q notes false t
 
 pub turn-waits : (p q : ℕ) (o : Outcome) (b : Bool) → (q == p) ≡ b → waiting p (leaving_of q o) ≡ (if b then o.notes else [])
-turn-waits p q o b t = sent-wait p q (letters_of o) (map (Tells q) o.notes) ∙ notes-wait p q o.notes b t
+turn-waits p q o b t = sent-wait p q (letters_of o) (map (Notes q) o.notes) ∙ notes-wait p q o.notes b t
 
 -- ---- turns
 
@@ -168,11 +168,11 @@ leaving-takes-none n (Sends p q frame) Broken = tt
 leaving-takes-none n (Sends p q frame) (Said text sends) = tt
 leaving-takes-none n (Sends p q frame) (Named r) = tt
 leaving-takes-none n (Sends p q frame) (Digest digest) = tt
-leaving-takes-none n (Tells p note) Done = tt
-leaving-takes-none n (Tells p note) Failed = tt
-leaving-takes-none n (Tells p note) Unremembered = tt
-leaving-takes-none n (Tells p note) (Came bytes) = tt
-leaving-takes-none n (Tells p note) Broken = tt
-leaving-takes-none n (Tells p note) (Said text sends) = refl
-leaving-takes-none n (Tells p note) (Named r) = tt
-leaving-takes-none n (Tells p note) (Digest digest) = tt
+leaving-takes-none n (Notes p note) Done = tt
+leaving-takes-none n (Notes p note) Failed = tt
+leaving-takes-none n (Notes p note) Unremembered = tt
+leaving-takes-none n (Notes p note) (Came bytes) = tt
+leaving-takes-none n (Notes p note) Broken = tt
+leaving-takes-none n (Notes p note) (Said text sends) = refl
+leaving-takes-none n (Notes p note) (Named r) = tt
+leaving-takes-none n (Notes p note) (Digest digest) = tt

@@ -23,7 +23,7 @@ use Rattle.store_defs.specs.Words.{State}
 use Rattle.store_laws.proofs.Leaves.{one_reply_per_leaf, one_state_per_leaf}
 use Rattle.store_laws.proofs.Answers.{accepted_is_answer, reply_is_answer}
 use Rattle.following_laws.specs.Runs as runs
-use Rattle.following_laws.specs.Runs.{Moment, Says, ServedRun, Step, WritesReply, WritesState, begin, reached, turns_in}
+use Rattle.following_laws.specs.Runs.{Moment, TakesWord, ServedRun, Step, WritesReply, WritesState, begin, reached, turns_in}
 use Rattle.following_laws.proofs.Running.{run_gives, run_holds, run_replies, runs_give_once, runs_reply_once}
 use Rattle.store_service.specs.Service.{AreServed}
 use Rattle.serve_laws.specs.Runs.{NodeRun, at, cast, first, last, opened, process_of, steps, turns_of}
@@ -72,8 +72,8 @@ module _ (sv : Services) (r : NodeRun) (h : Host) (later : List Entry) (one : Is
     earlier = earlier;
     later = behind;
     turns = parts;
-    joinings = of-family (λ t m0. (front : List Step) (bytes : List ℕ) → IsPrefixOf (front ++ Says (State bytes) ∷ []) (steps r h)
-        → let m = reached t (place_of r.kit h) m0 (front ++ Says (State bytes) ∷ []) in
+    joinings = of-family (λ t m0. (front : List Step) (bytes : List ℕ) → IsPrefixOf (front ++ TakesWord (State bytes) ∷ []) (steps r h)
+        → let m = reached t (place_of r.kit h) m0 (front ++ TakesWord (State bytes) ∷ []) in
         Contains (sv.joinings h.process) (record { view = m.process.pool.view; offered = m.offered })) one.joinings;
   }
 

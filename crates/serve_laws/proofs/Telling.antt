@@ -10,7 +10,7 @@ use Rattle.group_defs.specs.Events.{Delivers, Note}
 use Rattle.node_defs.specs.Casts.{Cast, from_start, setting_of}
 use Rattle.node_defs.specs.Lines.{Stop}
 use Rattle.node_defs.specs.Lives.{IsSound}
-use Rattle.node_defs.specs.Nodes.{Answer, Append, Ask, Bind, Call, Finish, Flush, Get, Greet, Leaving, Mark, Node, Opening, Post, Rests, Said, Say, Sends, Serve, Snapper, Take, Task, Tells, TellsOf, Word, Words, answered, call_of, call_of_leaving, call_of_opening, call_of_tasks, run}
+use Rattle.node_defs.specs.Nodes.{Answer, Append, Ask, Bind, Call, Finish, Flush, Get, Greet, Leaving, Mark, Node, Opening, Post, Rests, Said, Say, Sends, Serve, Snapper, Take, Task, Notes, NotesOf, Word, Words, answered, call_of, call_of_leaving, call_of_opening, call_of_tasks, run}
 use Rattle.node_traces.specs.Service.{Asked, asked_by, asking}
 use Rattle.node_traces.proofs.Service.{asked-in-a-row}
 use Rattle.node_laws.proofs.Fitting.{start-numbered}
@@ -22,7 +22,7 @@ use Rattle.store_defs.specs.Services.{noted_text, place_of, worded}
 use Rattle.store_defs.specs.Words as words
 use Rattle.store_defs.specs.Words.{Give, given_text, reported_text}
 use Rattle.following_laws.specs.Runs as runs
-use Rattle.following_laws.specs.Runs.{Says, Step, reached}
+use Rattle.following_laws.specs.Runs.{TakesWord, Step, reached}
 use Rattle.store_service.specs.Service.{AreServed, Serving, after_all, after_one, noted, serving}
 use Rattle.node_defs.specs.Nodes as nodes
 use Rattle.serve_laws.specs.Runs.{IsHostIn, NodeRun, after_some, at, cast, first, history, opened, steps, steps_by, steps_in, turns_of, word_in}
@@ -47,17 +47,17 @@ after-both o (i ∷ g) h = after-both (after_one o i) g h
 said-text : (t u : List ℕ) (s v : List (ℕ × List ℕ)) → Said t s ≡ Said u v → t ≡ u
 said-text t u s v e = cc
 
-same-note : (r p : ℕ) (other note : Note) → TellsOf r other ≡ TellsOf p note → Tells r other ≡ Tells p note
+same-note : (r p : ℕ) (other note : Note) → NotesOf r other ≡ NotesOf p note → Notes r other ≡ Notes p note
 same-note r p other note e = cc
 
 -- the node tells its service of this note
 record TellsNow (n : Node) (p : ℕ) (note : Note) : Type 0 where
   over : n.opening ≡ []
   rest : List Leaving
-  first_is : n.leaving ≡ Tells p note ∷ rest
+  first_is : n.leaving ≡ Notes p note ∷ rest
 
 module _ (c : Cast) (n : Node) (p : ℕ) (note : Note) where
-  by-task : (ts : List Task) → call_of_tasks c n ts ≡ TellsOf p note → ⊥
+  by-task : (ts : List Task) → call_of_tasks c n ts ≡ NotesOf p note → ⊥
   by-task [] e = cc
   by-task (Take r event ∷ ts) e = cc
   by-task (Append r event ∷ ts) e = cc
@@ -69,27 +69,27 @@ module _ (c : Cast) (n : Node) (p : ℕ) (note : Note) where
   by-task (Post r to frame ∷ ts) e = cc
   by-task (Mark ∷ ts) e = cc
 
-  by-leaving : (ls : List Leaving) → n.opening ≡ [] → n.leaving ≡ ls → call_of_leaving c n ls ≡ TellsOf p note → TellsNow n p note
+  by-leaving : (ls : List Leaving) → n.opening ≡ [] → n.leaving ≡ ls → call_of_leaving c n ls ≡ NotesOf p note → TellsNow n p note
   by-leaving [] over is e = absurd (by-task n.tasks e)
   by-leaving (Sends r to frame ∷ ls) over is e = absurd cc
-  by-leaving (Tells r other ∷ ls) over is e = record {
+  by-leaving (Notes r other ∷ ls) over is e = record {
     over = over;
     rest = ls;
     first_is = is ∙ ap (λ (l : Leaving). l ∷ ls) (same-note r p other note e);
   }
 
-  by-opening : (os : List Opening) → n.opening ≡ os → call_of_opening c n os ≡ TellsOf p note → TellsNow n p note
+  by-opening : (os : List Opening) → n.opening ≡ os → call_of_opening c n os ≡ NotesOf p note → TellsNow n p note
   by-opening [] is e = by-leaving n.leaving is refl e
   by-opening (Bind port ∷ os) is e = absurd cc
   by-opening (Greet text ∷ os) is e = absurd cc
   by-opening (Serve ∷ os) is e = absurd cc
   by-opening (Finish ∷ os) is e = absurd cc
 
-  tells-now : call_of c n ≡ TellsOf p note → TellsNow n p note
+  tells-now : call_of c n ≡ NotesOf p note → TellsNow n p note
   unfolding call_of
   tells-now e = go n.stopped e
     where
-      go : (st : Option Stop) → elim st [ Some why ↦ Rests | None ↦ call_of_opening c n n.opening ] ≡ TellsOf p note → TellsNow n p note
+      go : (st : Option Stop) → elim st [ Some why ↦ Rests | None ↦ call_of_opening c n n.opening ] ≡ NotesOf p note → TellsNow n p note
       go None is = by-opening n.opening refl is
       go (Some why) is = absurd cc
 
@@ -102,7 +102,7 @@ module _ (c : Cast) (n : Node) (p : ℕ) (line : List ℕ) where
   hands-leaving : (ls : List Leaving) → n.opening ≡ [] → n.leaving ≡ ls → call_of_leaving c n ls ≡ Words p line → HandsNow n
   hands-leaving [] over is e = record { over = over; none = is }
   hands-leaving (Sends r to frame ∷ ls) over is e = absurd cc
-  hands-leaving (Tells r note ∷ ls) over is e = absurd cc
+  hands-leaving (Notes r note ∷ ls) over is e = absurd cc
 
   hands-opening : (os : List Opening) → n.opening ≡ os → call_of_opening c n os ≡ Words p line → HandsNow n
   hands-opening [] is e = hands-leaving n.leaving is refl e
@@ -208,11 +208,11 @@ module _ (r : NodeRun) (h : Host) (is : IsKit r.kit) (found : IsHostIn r h) (ser
 
   -- ---- notes
 
-  note-so : (note : Note) (text : List ℕ) → WasSaid r (TellsOf h.process note) text → WritesOfNote r h note text
+  note-so : (note : Note) (text : List ℕ) → WasSaid r (NotesOf h.process note) text → WritesOfNote r h note text
   note-so note text w = by (after_all None (before call text w)) (holds call text w) (so-served call text w)
     where
       call : Call
-      call = TellsOf h.process note
+      call = NotesOf h.process note
 
       n : Node
       n = after_some r w.front
@@ -294,8 +294,8 @@ module _ (r : NodeRun) (h : Host) (is : IsKit r.kit) (found : IsHostIn r h) (ser
             word = x;
             behind = rest;
             steps_are = steps-so call text w
-                ∙ ap (λ (b : Bool). done call text w ++ ((if b then map Says (option_to_list (word_in r.kit line)) else []) ++ rest)) own
-                ∙ ap (λ (o : Option words.Word). done call text w ++ (map Says (option_to_list o) ++ rest)) e;
+                ∙ ap (λ (b : Bool). done call text w ++ ((if b then map TakesWord (option_to_list (word_in r.kit line)) else []) ++ rest)) own
+                ∙ ap (λ (o : Option words.Word). done call text w ++ (map TakesWord (option_to_list o) ++ rest)) e;
             word_is = e;
             text_is = said-text text _ w.sends [] (said (Some x) e)
                 ∙ ap (λ (p : Process). (worded (along.valid r.kit r.version r.snap h is found (first r h) (turns_of r h (opened r).kept)) (place_of r.kit h) (payloads_of p.delivered) t x).0) (sym hold.process)
@@ -305,7 +305,7 @@ module _ (r : NodeRun) (h : Host) (is : IsKit r.kit) (found : IsHostIn r h) (ser
 
   -- ---- replies and states
 
-  reply-so : (view : ℕ) (d : Delivered) (text : List ℕ) → WasSaid r (TellsOf h.process (Delivers view d)) text → SaysReply r h text
+  reply-so : (view : ℕ) (d : Delivered) (text : List ℕ) → WasSaid r (NotesOf h.process (Delivers view d)) text → SaysReply r h text
   unfolding reported_of
   reply-so view d text w =
       let so = note-so (Delivers view d) text w in
@@ -318,7 +318,7 @@ module _ (r : NodeRun) (h : Host) (is : IsKit r.kit) (found : IsHostIn r h) (ser
           record {
             view = view;
             delivered = d;
-            said = subst (WasSaid r (TellsOf h.process (Delivers view d)))
+            said = subst (WasSaid r (NotesOf h.process (Delivers view d)))
                 (so.text_is ∙ ap (λ (word : ReplyWord). reported_text h.process (ReportedReply word)) e) w;
             writes = record {
               before = so.before;
@@ -356,7 +356,7 @@ module _ (r : NodeRun) (h : Host) (is : IsKit r.kit) (found : IsHostIn r h) (ser
           writes = record {
             before = so.before;
             behind = so.behind;
-            steps_are = so.steps_are ∙ ap (λ (word : words.Word). so.before ++ Says word ∷ so.behind) is-give;
+            steps_are = so.steps_are ∙ ap (λ (word : words.Word). so.before ++ TakesWord word ∷ so.behind) is-give;
             given = e;
           };
         };

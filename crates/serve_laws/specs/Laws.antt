@@ -15,7 +15,7 @@ use Rattle.group_defs.specs.Events.{Delivers, Note}
 use Rattle.group_defs.specs.Family.{accounts, end_of, ends}
 use Rattle.journal_defs.specs.Entries.{Entry}
 use Rattle.node_defs.specs.Casts.{setting_of}
-use Rattle.node_defs.specs.Nodes.{TellsOf, Words}
+use Rattle.node_defs.specs.Nodes.{NotesOf, Words}
 use Rattle.node_traces.specs.Service.{Asked}
 use Rattle.store_defs.specs.Holding.{payloads_of, store_below}
 use Rattle.store_defs.specs.Laws.{IsAnswerOf, IsInstalled, MadeReply, MadeState, ServicePremises, Services, accepted_of}
@@ -27,7 +27,7 @@ use Rattle.store_defs.specs.Votes.{Content, content_of}
 use Rattle.store_defs.specs.Votes as votes
 use Rattle.store_defs.specs.Words.{Give, State, given_text, reported_text}
 use Rattle.following_laws.specs.Runs as runs
-use Rattle.following_laws.specs.Runs.{Says, ServedRun, Step}
+use Rattle.following_laws.specs.Runs.{TakesWord, ServedRun, Step}
 use Rattle.store_service.specs.Service.{AreServed}
 use Rattle.serve_laws.specs.Runs.{IsHostIn, NodeRun, at, first, history, process_of, steps, word_in}
 use Rattle.serve_laws.specs.Reported.{Gave, Replied, WasSaid, WritesOfNote, WritesToLine}
@@ -49,9 +49,9 @@ pub record SaysState (r : NodeRun) (h : Host) (text : List ℕ) : Type 0 where
 -- For a process that a node hosts: what is said of each note that its turns let out, and to each line of the script, is what its server
 -- writes, in the run of the server that begins as the node does. So after each message it is a reply, or that there is none.
 pub record RunTells (r : NodeRun) (h : Host) : Type 0 where
-  pub notes : (note : Note) (text : List ℕ) → WasSaid r (TellsOf h.process note) text → WritesOfNote r h note text
+  pub notes : (note : Note) (text : List ℕ) → WasSaid r (NotesOf h.process note) text → WritesOfNote r h note text
   pub lines : (line text : List ℕ) → WasSaid r (Words h.process line) text → WritesToLine r h line text
-  pub replies : (view : ℕ) (d : Delivered) (text : List ℕ) → WasSaid r (TellsOf h.process (Delivers view d)) text → SaysReply r h text
+  pub replies : (view : ℕ) (d : Delivered) (text : List ℕ) → WasSaid r (NotesOf h.process (Delivers view d)) text → SaysReply r h text
   pub states : (line text : List ℕ) → word_in r.kit line ≡ Some Give → WasSaid r (Words h.process line) text → SaysState r h text
 
 -- this holds of each hosted process, where the service of the node has answered as the servers of a store
@@ -62,8 +62,8 @@ RunsTell = (r : NodeRun) (h : Host) → IsKit r.kit → IsHostIn r h → AreServ
 
 -- what was offered to the process in the run is among its joinings
 abbrev pub AreJoinings : Services → NodeRun → Host → Type 0
-AreJoinings sv r h = (front : List Step) (bytes : List ℕ) → IsPrefixOf (front ++ Says (State bytes) ∷ []) (steps r h)
-    → let m = at r h (front ++ Says (State bytes) ∷ []) in
+AreJoinings sv r h = (front : List Step) (bytes : List ℕ) → IsPrefixOf (front ++ TakesWord (State bytes) ∷ []) (steps r h)
+    → let m = at r h (front ++ TakesWord (State bytes) ∷ []) in
     Contains (sv.joinings h.process) (record { view = m.process.pool.view; offered = m.offered })
 
 -- The family of the kit's group has the process of this host as a correct one, whose turns are those of the journal, which goes on with these

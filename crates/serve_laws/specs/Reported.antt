@@ -5,13 +5,13 @@ use Rattle.kit_defs.specs.Kits.{Host}
 use Rattle.group_defs.specs.Process.{Delivered}
 use Rattle.group_defs.specs.Events.{Delivers, Note, Turn, outcome}
 use Rattle.node_defs.specs.Casts.{setting_of}
-use Rattle.node_defs.specs.Nodes.{Answer, Call, Said, TellsOf, Words, call_of}
+use Rattle.node_defs.specs.Nodes.{Answer, Call, Said, NotesOf, Words, call_of}
 use Rattle.store_defs.specs.Holding.{payloads_of}
 use Rattle.store_defs.specs.Records.{Reply, StateRecord}
 use Rattle.store_defs.specs.Serving.{Given, Server, Signed, ReportedReply, after_notes}
 use Rattle.store_defs.specs.Services.{noted_text, place_of, worded}
 use Rattle.store_defs.specs.Words.{Give, Word, given_text, reported_text}
-use Rattle.following_laws.specs.Runs.{Happens, Says, Step, WritesReply, WritesState}
+use Rattle.following_laws.specs.Runs.{Happens, TakesWord, Step, WritesReply, WritesState}
 use Rattle.serve_laws.specs.Runs.{NodeRun, after_some, at, cast, first, steps, word_in}
 
 -- the node made this call in the run, and its service said this text
@@ -41,7 +41,7 @@ pub record WritesToLine (r : NodeRun) (h : Host) (line text : List ℕ) : Type 0
   pub before : List Step
   pub word : Word
   pub behind : List Step
-  pub steps_are : steps r h ≡ before ++ Says word ∷ behind
+  pub steps_are : steps r h ≡ before ++ TakesWord word ∷ behind
   pub word_is : word_in r.kit line ≡ Some word
   pub text_is : text ≡ (worded (is_valid r.kit.scheme) (place_of r.kit h) (payloads_of (at r h before).process.delivered)
       (at r h before).server word).0
@@ -52,7 +52,7 @@ pub record WritesToLine (r : NodeRun) (h : Host) (line text : List ℕ) : Type 0
 pub record Replied (r : NodeRun) (h : Host) (leaf : ℕ) (reply : Reply) : Type 0 where
   pub view : ℕ
   pub delivered : Delivered
-  pub said : WasSaid r (TellsOf h.process (Delivers view delivered)) (reported_text h.process (ReportedReply (Signed reply)))
+  pub said : WasSaid r (NotesOf h.process (Delivers view delivered)) (reported_text h.process (ReportedReply (Signed reply)))
   pub writes : WritesReply (setting_of r.kit) (place_of r.kit h) (first r h) (steps r h) leaf reply
 
 -- in the run a `give` was answered with this state

@@ -19,7 +19,7 @@ use Rattle.node_traces.specs.Service.{Asked, asked_by}
 use Rattle.store_defs.specs.Serving.{Place}
 use Rattle.store_defs.specs.Services.{behind_first, place_of}
 use Rattle.store_defs.specs.Words.{Word, word_by}
-use Rattle.following_laws.specs.Runs.{Happens, Moment, Says, Step, begin, reached}
+use Rattle.following_laws.specs.Runs.{Happens, Moment, TakesWord, Step, begin, reached}
 
 -- ---- a run
 
@@ -69,7 +69,7 @@ turns_by p now _ = []
 
 -- a word to its server, where the call hands in the line
 abbrev pub words_by : Kit → ℕ → Call → List Step
-words_by kit p (Words q line) = if q == p then map Says (option_to_list (word_in kit line)) else []
+words_by kit p (Words q line) = if q == p then map TakesWord (option_to_list (word_in kit line)) else []
 words_by kit p _ = []
 
 -- a turn has happened once its entry is in the journal for good, and a word is said once its line has an answer

@@ -21,10 +21,10 @@ raw_value v = record { update = raw_update v.update; cut = v.cut }
 abbrev pub raw_report : Option (ℕ × RawValue) → Option (ℕ × plain.Value)
 raw_report ready = option_map (λ r. (r.0, raw_value r.1)) ready
 
--- the value, where it passed the test
+-- the value if the test answers Ok, and else the fault of the test
 abbrev pub passed : {A : Type 0} → Result (Unit {0}) FrameFault → A → Result A FrameFault
 passed test a = test >>= λ _. Ok a
 
--- n messages, where each is in range
+-- the n messages that the bytes begin with, if each of them is in range
 abbrev pub in_range : ℕ → List ℕ → Result Batch FrameFault
 in_range n bytes = messages_at n bytes >>= λ ms. passed (messages_within ms.0) ms.0

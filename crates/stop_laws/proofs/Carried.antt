@@ -4,7 +4,7 @@ use Rattle.std.proofs.lemmas.Bool.{ne_eqb}
 use Rattle.node_defs.specs.Scripts.{line_said, most_lines}
 use Rattle.node_defs.specs.Lines.{Stop}
 use Rattle.node_defs.specs.Casts.{Cast, outcome_of}
-use Rattle.node_defs.specs.Nodes.{Node, Opening, Bind, Greet, Serve, Finish, Leaving, Sends, Tells, Task, Take, Append, Flush, Say, Ask, Get, Word, Post, Mark, Answer, Done, Failed, Unremembered, Came, Broken, Said, Named, Digest, Snapper, after_task, after_leaving, after_read, call_of, answered, run, calls}
+use Rattle.node_defs.specs.Nodes.{Node, Opening, Bind, Greet, Serve, Finish, Leaving, Sends, Notes, Task, Take, Append, Flush, Say, Ask, Get, Word, Post, Mark, Answer, Done, Failed, Unremembered, Came, Broken, Said, Named, Digest, Snapper, after_task, after_leaving, after_read, call_of, answered, run, calls}
 use Rattle.node_traces.specs.Ways.{Through}
 use Rattle.node_traces.specs.Outside.{SourceSeen, SourceStep, SourceAnswered}
 use Rattle.stop_laws.proofs.Rested.{at, ends-so, nothing-more}
@@ -44,8 +44,8 @@ module _ (c : Cast) (snap : Snapper) (most : ℕ) (n : Node) (s t : SourceSeen) 
   by-leaving (Sends p q frame) ls ts Done step own more = still _ runs-on own step more
   by-leaving (Sends p q frame) ls ts Failed step own more = still _ runs-on own step more
   by-leaving (Sends p q frame) ls ts _ step own more = still _ runs-on own step more
-  by-leaving (Tells p note) ls ts (Said text sends) step own more = still _ runs-on own step more
-  by-leaving (Tells p note) ls ts _ step own more = still _ runs-on own step more
+  by-leaving (Notes p note) ls ts (Said text sends) step own more = still _ runs-on own step more
+  by-leaving (Notes p note) ls ts _ step own more = still _ runs-on own step more
 
   by-get : (p m count : ℕ) (ts : List Task) (a : Answer) → Is (at n [] [] (Get p m count ∷ ts)) a
   unfolding call_of answered after_task

@@ -6,7 +6,7 @@ use Rattle.journal_defs.specs.Entries.{Event, entry_bytes}
 use Rattle.node_defs.specs.Scripts.{Line, line_said, most_lines}
 use Rattle.node_defs.specs.Lines.{Stop, BindFailed, BadLine, Full}
 use Rattle.node_defs.specs.Casts.{Cast, entry_for, outcome_of}
-use Rattle.node_defs.specs.Nodes.{Node, Opening, Bind, Greet, Serve, Finish, Leaving, Sends, Tells, Task, Take, Append, Flush, Say, Ask, Get, Word, Post, Mark, Answer, Done, Failed, Unremembered, Came, Broken, Said, Named, Digest, Snapper, ends, goes, is_full, after_step, after_line, after_task, after_leaving, after_read, answered, run}
+use Rattle.node_defs.specs.Nodes.{Node, Opening, Bind, Greet, Serve, Finish, Leaving, Sends, Notes, Task, Take, Append, Flush, Say, Ask, Get, Word, Post, Mark, Answer, Done, Failed, Unremembered, Came, Broken, Said, Named, Digest, Snapper, ends, goes, is_full, after_step, after_line, after_task, after_leaving, after_read, answered, run}
 use Rattle.stop_laws.proofs.Rested.{at, ends-so}
 use Rattle.stop_laws.specs.Stops.{CanHaveStopped, StopsOnlySo}
 
@@ -63,8 +63,8 @@ module _ (c : Cast) (snap : Snapper) (n : Node) where
   by-leaving (Sends p q frame) ls ts Done = (tt, (λ e. absurd cc), refl)
   by-leaving (Sends p q frame) ls ts Failed = (tt, (λ e. absurd cc), refl)
   by-leaving (Sends p q frame) ls ts _ = (tt, (λ e. absurd cc), refl)
-  by-leaving (Tells p note) ls ts (Said text sends) = (tt, (λ e. absurd cc), refl)
-  by-leaving (Tells p note) ls ts _ = (tt, (λ e. absurd cc), refl)
+  by-leaving (Notes p note) ls ts (Said text sends) = (tt, (λ e. absurd cc), refl)
+  by-leaving (Notes p note) ls ts _ = (tt, (λ e. absurd cc), refl)
 
   by-get : (p most count : ℕ) (ts : List Task) (a : Answer) → IsPast (at n [] [] (Get p most count ∷ ts)) a
   unfolding answered after_task

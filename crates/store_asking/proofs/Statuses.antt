@@ -11,7 +11,7 @@ use Rattle.kit_reading.specs.Fronts.{front_fault}
 use Rattle.kit_reading.specs.Faults.{fault_of}
 use Rattle.kit_reading.specs.declared.fronts.FrontFault.{FrontFault}
 use Rattle.kit_reading.specs.declared.fronts.FrontFault.TheVariants as fronts
-use Rattle.rp_base.specs.Streams.{Says}
+use Rattle.rp_base.specs.Streams.{WritesLine}
 use Rattle.store_defs.specs.Asking.{Question, answer_text, answered, ask_output, asked}
 use Rattle.store_asking.specs.Answers.{Answered, AnsweredInPart, Asks, AsksNothing, Refused}
 use Rattle.store_asking.specs.Stops.{line_of, status_of, stop_text}
@@ -73,13 +73,13 @@ at_fault (fronts.Kit fault) is = of (fault_of fault) refl
     of (Some f) e = record { fault = f; is = e; line = rw e refl }
 
 pub refused_so : (e : FrontFault) (before now old new : Option (List ℕ)) (f f' : ℕ) → status_of e ≡ 7
-    → IfSome (front_fault e) (λ fault. Settles asked before now (Err fault)) → Says (line_of e) old new f f' → Refused before now old new f f'
+    → IfSome (front_fault e) (λ fault. Settles asked before now (Err fault)) → WritesLine (line_of e) old new f f' → Refused before now old new f f'
 refused_so e before now old new f f' seven why said =
     let reported = at_fault e seven in
     record {
       fault = reported.fault;
       is = subst (λ (o : Option KitFault). IfSome o (λ fault. Settles asked before now (Err fault))) reported.is why;
-      said = subst (λ (t : List ℕ). Says t old new f f') reported.line said;
+      said = subst (λ (t : List ℕ). WritesLine t old new f f') reported.line said;
     }
 
 -- ---- one input

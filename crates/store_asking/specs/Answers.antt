@@ -2,7 +2,7 @@
 -- the counts of the sink's faults before and now. Of a stream that does not say what it holds, nothing is said by it.
 use Rattle.std.specs.Prelude.{◌≡◌, ℕ, List, Option, IsSomeAnd, IsOk, IsErr, Err}
 use Rattle.std.specs.Io.KnownBytes.{Appends}
-use Rattle.rp_base.specs.Streams.{AppendsPrefix, Says}
+use Rattle.rp_base.specs.Streams.{AppendsPrefix, WritesLine}
 use Rattle.line_input.specs.Places.{Ends, Settles}
 use Rattle.kit_defs.specs.KitReading.{KitFault}
 use Rattle.store_defs.specs.Asking.{ask_output, asked}
@@ -25,7 +25,7 @@ pub record AnsweredInPart (payload : List ℕ) (before now old new : Option (Lis
 pub record Refused (before now old new : Option (List ℕ)) (faults faults_now : ℕ) : Type 0 where
   pub fault : KitFault
   pub is : Settles asked before now (Err fault)
-  pub said : Says (stop_text fault) old new faults faults_now
+  pub said : WritesLine (stop_text fault) old new faults faults_now
 
 -- the source says what it has left, and there is a question in it
 abbrev pub Asks : Option (List ℕ) → Type 0

@@ -5,7 +5,7 @@ ghost use Rattle.std.specs.Fmt.{decimal};
 ghost use Rattle.hex.specs.Hex.{encode_lower};
 ghost use Rattle.text_defs.specs.Words.{space};
 ghost use Rattle.rp_base.specs.Causes.{Rose};
-ghost use Rattle.rp_base.specs.Streams.{AppendsPrefix, Says};
+ghost use Rattle.rp_base.specs.Streams.{AppendsPrefix, WritesLine};
 ghost use Rattle.line_input.specs.Places.{Ends, Settles};
 ghost use Rattle.kit_reading.specs.Fronts.{front_fault};
 ghost use Rattle.store_defs.specs.Asking.{answer_text, ask_output, asked};
@@ -106,7 +106,7 @@ fn give<K: Sink>(output: &mut K, line: &[u8]) -> u8
 fn tell<K: Sink>(alloc: Global, output: &mut K, fault: FrontFault) -> u8
     ensures silent { result ≡ 1 → Keeps (K.written output.old) (K.written output.new) }
     ensures status { result ≢ 1 → result ≡ status_of fault }
-    ensures line { result ≢ 1 → Says (line_of fault)
+    ensures line { result ≢ 1 → WritesLine (line_of fault)
         (K.written output.old) (K.written output.new) (K.faults output.old) (K.faults output.new) }
 {
     let Ok(line) = stop_line(alloc, fault) else {
@@ -138,7 +138,7 @@ pub fn ask<S: Source, K: Sink>(alloc: Global, payload: &[u8], input: &mut S, out
 
     // 3: only where the source failed; only the line that says so was written.
     ensures read { result ≡ 3 → Rose (S.faults input.old) (S.faults input.new) }
-    ensures read_line { result ≡ 3 → Says (codes "stop 3 read\n")
+    ensures read_line { result ≡ 3 → WritesLine (codes "stop 3 read\n")
         (K.written output.old) (K.written output.new) (K.faults output.old) (K.faults output.new) }
 
     // 4: only where the sink failed; a prefix of the answer was written.

@@ -3,7 +3,7 @@ use Rattle.std.proofs.Common.{◌≡◌, ◌⊎◌, ℕ, true, false, Option, So
 use Rattle.std.specs.Prelude.{IsErrOf}
 use Rattle.std.proofs.lemmas.List.{append-nil}
 use Rattle.std.specs.Io.KnownBytes.{Appends, Consumes, IsAtEnd}
-use Rattle.rp_base.specs.Streams.{Says}
+use Rattle.rp_base.specs.Streams.{WritesLine}
 use Rattle.store_text_defs.specs.declared.Filter.{Filter}
 use Rattle.store_text_defs.specs.Filters.{Filtered, Stopped}
 use Rattle.store_text_defs.specs.Laws.{OneOutcome}
@@ -48,7 +48,7 @@ module _ (errors errors_now : Option (List ℕ)) (faults faults_now : ℕ) (Noth
   no_other (Faulty number) r n (inr e) is (inl zero) = omega (arith, e.0, is, zero)
   no_other (Faulty number) r n (inr e) is (inr two) = omega (arith, e.0, is, two)
 
-  pub at_read : (stop : Stop) (r : ℕ) → Ends errors errors_now faults faults_now Nothing stop r → r ≡ 3 → (stop ≡ Read) × Says read_line errors errors_now faults faults_now
+  pub at_read : (stop : Stop) (r : ℕ) → Ends errors errors_now faults faults_now Nothing stop r → r ≡ 3 → (stop ≡ Read) × WritesLine read_line errors errors_now faults faults_now
   at_read NoMemory r e three = absurd (omega (arith, e.0, three))
   at_read Read r e three = (refl, e.1)
   at_read Write r e three = absurd (omega (arith, e.0, three))
@@ -63,7 +63,7 @@ module _ (errors errors_now : Option (List ℕ)) (faults faults_now : ℕ) (Noth
   at_write (Faulty number) r (inr e) four = absurd (omega (arith, e.0, four))
 
   pub at_fault : (stop : Stop) (r : ℕ) → Ends errors errors_now faults faults_now Nothing stop r → r ≡ 7
-      → (number : ℕ) × (stop ≡ Faulty number) × Says (fault_line number) errors errors_now faults faults_now
+      → (number : ℕ) × (stop ≡ Faulty number) × WritesLine (fault_line number) errors errors_now faults faults_now
   at_fault NoMemory r e seven = absurd (omega (arith, e.0, seven))
   at_fault Read r e seven = absurd (omega (arith, e.0, seven))
   at_fault Write r e seven = absurd (omega (arith, e.0, seven))
@@ -143,7 +143,7 @@ module _ (f : Filter) (before now old new : Option (List ℕ)) where
   refused_so stop number is ran = subst (λ (s : Stop). Ran f before now old new (stopped_by s)) is ran
 
   pub refused_and_says : (errors errors_now : Option (List ℕ)) (faults faults_now : ℕ) (stop : Stop) (number : ℕ) → stop ≡ Faulty number
-      → Ran f before now old new (Err stop) → Says (fault_line number) errors errors_now faults faults_now
+      → Ran f before now old new (Err stop) → WritesLine (fault_line number) errors errors_now faults faults_now
       → RefusedAndSays f before now old new errors errors_now faults faults_now
   refused_and_says errors errors_now faults faults_now stop number is ran says = record {
     number = number;

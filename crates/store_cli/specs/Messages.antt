@@ -2,7 +2,7 @@
 use Rattle.std.specs.Prelude.{◌≡◌, ◌⊎◌, ℕ, List, [], ◌∷◌, codes, Option}
 use Rattle.std.specs.Fmt.{decimal}
 use Rattle.text_defs.specs.Words.{line_text}
-use Rattle.rp_base.specs.Streams.{Says}
+use Rattle.rp_base.specs.Streams.{WritesLine}
 use Rattle.line_input.specs.declared.faults.InputFault.{InputFault}
 use Rattle.line_input.specs.declared.faults.InputFault.TheVariants as inputs
 use Rattle.store_cli.specs.declared.stops.Stop.{Stop}
@@ -24,10 +24,10 @@ read_line = line_text (codes "stop" ∷ codes "3" ∷ codes "read" ∷ [])
 -- the line of a fault, the status is 1.
 abbrev pub Ends : Option (List ℕ) → Option (List ℕ) → ℕ → ℕ → Type 0 → Stop → ℕ → Type 0
 Ends errors errors_now faults faults_now Nothing NoMemory status = (status ≡ 1) × Nothing
-Ends errors errors_now faults faults_now Nothing Read status = (status ≡ 3) × Says read_line errors errors_now faults faults_now
+Ends errors errors_now faults faults_now Nothing Read status = (status ≡ 3) × WritesLine read_line errors errors_now faults faults_now
 Ends errors errors_now faults faults_now Nothing Write status = (status ≡ 4) × Nothing
 Ends errors errors_now faults faults_now Nothing (Faulty number) status =
-    ((status ≡ 7) × Says (fault_line number) errors errors_now faults faults_now) ⊎ ((status ≡ 1) × Nothing)
+    ((status ≡ 7) × WritesLine (fault_line number) errors errors_now faults faults_now) ⊎ ((status ≡ 1) × Nothing)
 
 -- why no line was taken
 abbrev pub of_input : InputFault → Stop

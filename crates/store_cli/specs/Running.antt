@@ -9,7 +9,7 @@
 --   one line: Takes*, Breaks*, Stepped*
 use Rattle.std.specs.Prelude.{◌≡◌, ◌⊎◌, ℕ, Bool, true, false, List, [], ◌∷◌, ◌++◌, Option, Some, Result, Ok, Err, IsSomeAnd}
 use Rattle.std.specs.Io.KnownBytes.{Appends, Consumes, IsAtEnd}
-use Rattle.rp_base.specs.Streams.{AppendsPrefix, Says}
+use Rattle.rp_base.specs.Streams.{AppendsPrefix, WritesLine}
 use Rattle.line_input.specs.Taking.{ReadOn}
 use Rattle.store_text_defs.specs.declared.Filter.{Filter}
 use Rattle.store_text_defs.specs.Filters.{AreMade, Filtered, IsFaulty, IsLine, Made, Stopped, becomes, ended, input_of, output_of}
@@ -60,7 +60,7 @@ pub record Refused (f : Filter) (number : ℕ) (before now old new : Option (Lis
 pub record RefusedAndSays (f : Filter) (before now old new errors errors_now : Option (List ℕ)) (faults faults_now : ℕ) : Type 0 where
   pub number : ℕ
   pub refused : Refused f number before now old new
-  pub said : Says (fault_line number) errors errors_now faults faults_now
+  pub said : WritesLine (fault_line number) errors errors_now faults faults_now
 
 -- ---- inputs that tell what they hold
 

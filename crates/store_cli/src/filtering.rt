@@ -2,7 +2,7 @@
 ghost use Rattle.std.specs.Prelude.{◌≡◌, ◌⊎◌, IfErr, IfOk, IsErrOf, OnErr, OnOk, Some, None, option_map};
 ghost use Rattle.std.specs.Io.KnownBytes.{Appends};
 ghost use Rattle.rp_base.specs.Causes.{Rose};
-ghost use Rattle.rp_base.specs.Streams.{AppendsPrefix, Says};
+ghost use Rattle.rp_base.specs.Streams.{AppendsPrefix, WritesLine};
 ghost use Rattle.store_text_defs.specs.Filters.{becomes};
 ghost use Rattle.store_cli.specs.Running.{Ran, Stepped};
 

@@ -1,6 +1,6 @@
 ghost use Rattle.std.specs.Prelude.{◌≡◌, ◌≢◌, ◌↔◌, ◌⊎◌, ℕ, List, codes};
 ghost use Rattle.rp_base.specs.Causes.{Rose};
-ghost use Rattle.rp_base.specs.Streams.{Says};
+ghost use Rattle.rp_base.specs.Streams.{WritesLine};
 ghost use Rattle.store_text_defs.specs.declared.Filter.{Filter};
 ghost use Rattle.store_questions.specs.Running as questions;
 ghost use Rattle.store_questions.specs.Running.{IsMade, IsNotMade, Made};
@@ -38,14 +38,14 @@ stop 2 words
 
 // Writes a line, or a prefix of it where a write fails: a fault is no more than that.
 fn say<E: Sink>(errors: &mut E, line: &[u8])
-    ensures { Says line.now (E.written errors.old) (E.written errors.new) (E.faults errors.old) (E.faults errors.new) }
+    ensures { WritesLine line.now (E.written errors.old) (E.written errors.new) (E.faults errors.old) (E.faults errors.new) }
 {
     let _ = write_all(errors, line);
 }
 
 // Tells the number of the first faulty line, and answers the status: 1 where there is no memory for the line that says so.
 fn tell_fault<E: Sink>(alloc: Global, errors: &mut E, number: u64) -> u8
-    ensures { ((result ≡ 7) × Says (reported.fault_line number) (E.written errors.old) (E.written errors.new) (E.faults errors.old) (E.faults errors.new))
+    ensures { ((result ≡ 7) × WritesLine (reported.fault_line number) (E.written errors.old) (E.written errors.new) (E.faults errors.old) (E.faults errors.new))
         ⊎ ((result ≡ 1) × (errors.new ≡ errors.old)) }
 {
     let Ok(line) = fault_line(alloc, number) else {
@@ -83,11 +83,11 @@ fn ask<S: Source, K: Sink, E: Sink>(
     ensures unwritten { AskSome words.now → (result ≡ 1) ⊎ (result ≡ 3) ⊎ (result ≡ 7) → output.new ≡ output.old }
     ensures read { result ≡ 3 → Rose (S.faults input.old) (S.faults input.new) }
     ensures no_read { result ≢ 3 → S.faults input.new ≡ S.faults input.old }
-    ensures read_line { result ≡ 3 → Says (codes "stop 3 read\n")
+    ensures read_line { result ≡ 3 → WritesLine (codes "stop 3 read\n")
         (E.written errors.old) (E.written errors.new) (E.faults errors.old) (E.faults errors.new) }
     ensures words { (result ≡ 2) ↔ (¬ AskSome words.now) }
     ensures unread { result ≡ 2 → (input.new ≡ input.old) × (output.new ≡ output.old) }
-    ensures words_line { result ≡ 2 → Says usage
+    ensures words_line { result ≡ 2 → WritesLine usage
         (E.written errors.old) (E.written errors.new) (E.faults errors.old) (E.faults errors.new) }
     ensures write { result ≡ 4 → Rose (K.faults output.old) (K.faults output.new) }
     ensures no_write { result ≢ 4 → K.faults output.new ≡ K.faults output.old }
@@ -143,13 +143,13 @@ pub fn store<S: Source, K: Sink, E: Sink>(
         → SomeMade filter (S.left input.old) (S.left input.new) (K.written output.old) (K.written output.new) }
     ensures read { result ≡ 3 → Rose (S.faults input.old) (S.faults input.new) }
     ensures no_read { result ≢ 3 → S.faults input.new ≡ S.faults input.old }
-    ensures read_line { result ≡ 3 → Says (codes "stop 3 read\n")
+    ensures read_line { result ≡ 3 → WritesLine (codes "stop 3 read\n")
         (E.written errors.old) (E.written errors.new) (E.faults errors.old) (E.faults errors.new) }
 
     // 2: exactly where the words are no command; nothing was read, and nothing written but which words there are, on standard error.
     ensures words { (result ≡ 2) ↔ (¬ AskAny words.now) }
     ensures unread { result ≡ 2 → (input.new ≡ input.old) × (output.new ≡ output.old) }
-    ensures words_line { result ≡ 2 → Says usage
+    ensures words_line { result ≡ 2 → WritesLine usage
         (E.written errors.old) (E.written errors.new) (E.faults errors.old) (E.faults errors.new) }
 
     // 4: exactly where the sink failed; what some lines from the front become was written, and of the next line a prefix, and nothing else.

@@ -2,7 +2,7 @@
 -- Names here (* for this crate alone):
 --   Beginning, genesis, was_member, stayed, holds, payloads_of, payloads_in, store_over, store_at, store_below
 --   leaves: delivered_below
---   what a process says of the store: Stands, Replies, Gives
+--   what a process says of the store: IsDeliveredHere, Replies, Gives
 use Rattle.std.specs.Prelude.{◌≡◌, ℕ, zero, suc, ◌+◌, ◌-◌, Bool, true, ◌&&◌, nat_le, List, [], ◌∷◌, ◌++◌, length, map, take, drop, IsTrue}
 use Rattle.std.specs.List.{list_any}
 use Rattle.group_defs.specs.Views.{is_member}
@@ -64,7 +64,7 @@ delivered_below a (suc x) = delivered_below a x + length (delivered_in a x)
 -- ---- what a process says of the store
 
 -- which message of a view is answered: those that the process delivered in the view before it, the message, and those after it
-pub record Stands (ds : List Delivered) : Type 0 where
+pub record IsDeliveredHere (ds : List Delivered) : Type 0 where
   pub before : List Delivered
   pub at : Delivered
   pub behind : List Delivered
@@ -73,14 +73,14 @@ pub record Stands (ds : List Delivered) : Type 0 where
 -- The process replies so to a message that it delivered: with the place, with the number of messages before it at that place, and with the
 -- answer of its store. The reply is signed with the leaf whose number is the number of messages that it delivered before.
 pub record Replies (a : Account) (b : Beginning) (leaf : ℕ) (r : Reply) : Type 0 where
-  pub stands : Stands (delivered_in a r.view)
+  pub delivery : IsDeliveredHere (delivered_in a r.view)
   pub holds : IsTrue (holds a b r.view)
   pub signer : r.signer ≡ a.me
-  pub place : r.place ≡ stands.at.place
-  pub position : r.position ≡ length (at_place stands.at.place stands.before)
-  pub payload : r.payload ≡ stands.at.payload
-  pub answer : r.answer ≡ answer_to (store_after (store_at a b r.view) (payloads_of stands.before)) stands.at.payload
-  pub leaf_is : leaf ≡ delivered_below a r.view + length stands.before
+  pub place : r.place ≡ delivery.at.place
+  pub position : r.position ≡ length (at_place delivery.at.place delivery.before)
+  pub payload : r.payload ≡ delivery.at.payload
+  pub answer : r.answer ≡ answer_to (store_after (store_at a b r.view) (payloads_of delivery.before)) delivery.at.payload
+  pub leaf_is : leaf ≡ delivered_below a r.view + length delivery.before
 
 -- The process gives this state: its store at the beginning of the view. It is signed with the leaf whose number is the view's.
 pub record Gives (a : Account) (b : Beginning) (r : StateRecord) : Type 0 where

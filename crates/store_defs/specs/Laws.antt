@@ -25,7 +25,7 @@ use Rattle.store_defs.specs.Votes.{Valid, Content, content_of, content_numbers, 
 use Rattle.store_defs.specs.Votes as votes
 use Rattle.store_defs.specs.Transfers.{new_transfer, transfer_after}
 use Rattle.store_defs.specs.Transfers as transfers
-use Rattle.store_defs.specs.Holding.{Beginning, genesis, delivered_below, holds, payloads_of, store_at, store_below, Stands, Replies, Gives}
+use Rattle.store_defs.specs.Holding.{Beginning, genesis, delivered_below, holds, payloads_of, store_at, store_below, IsDeliveredHere, Replies, Gives}
 use Rattle.store_defs.specs.Serving.{Place, Server, after_notes, held, server_of}
 
 -- ---- the map
@@ -182,12 +182,12 @@ JoinersHoldTheStore = (sv : Services) → ServicePremises sv
 pub record IsAnswerOf (accounts : List Account) (x : ℕ) (payload : List ℕ) (c : Content) : Type 0 where
   pub by : Account
   pub correct : Contains accounts by
-  pub stands : Stands (delivered_in by x)
-  pub place : c.place ≡ stands.at.place
-  pub position : c.position ≡ length (at_place stands.at.place stands.before)
-  pub payload_is : payload ≡ stands.at.payload
-  pub front : IsPrefixOf (without_places (stands.before ++ stands.at ∷ [])) ((group_of accounts).sequence x)
-  pub answer : c.answer ≡ answer_to (store_after (store_below (group_of accounts) x) (payloads_of stands.before)) payload
+  pub delivery : IsDeliveredHere (delivered_in by x)
+  pub place : c.place ≡ delivery.at.place
+  pub position : c.position ≡ length (at_place delivery.at.place delivery.before)
+  pub payload_is : payload ≡ delivery.at.payload
+  pub front : IsPrefixOf (without_places (delivery.before ++ delivery.at ∷ [])) ((group_of accounts).sequence x)
+  pub answer : c.answer ≡ answer_to (store_after (store_below (group_of accounts) x) (payloads_of delivery.before)) payload
 
 -- a place and position of a view have one payload and one answer
 abbrev pub OneAnswer : Type 0

@@ -19,7 +19,7 @@ use Rattle.safety_laws.proofs.ViewsAgree.{installed-one}
 use Rattle.store_defs.specs.Stores.{answer_to, store_after}
 use Rattle.store_defs.specs.Records.{Reply}
 use Rattle.store_defs.specs.Votes.{Content, content_of, is_asked, is_signed, same_content}
-use Rattle.store_defs.specs.Holding.{Beginning, Replies, Stands, payloads_of, store_below}
+use Rattle.store_defs.specs.Holding.{Beginning, Replies, IsDeliveredHere, payloads_of, store_below}
 use Rattle.store_defs.specs.Laws.{AcceptedIsAnswer, IsAnswerOf, IsInstalled, IsOwnReply, MadeReply, ReplyIsAnswer, ServicePremises, Services, accepted_of, vouches}
 use Rattle.store_laws.proofs.Holding.{agrees, store-is}
 use Rattle.store_laws.proofs.Joining.{right}
@@ -40,25 +40,25 @@ module _ (sv : Services) (premises : ServicePremises sv) where
   of-reply c m leaf r made =
       let a : Account = account_of (end_of f.setting c) in
       let said = made.replies in
-      let stands : Stands (delivered_in a r.view) = said.stands in
+      let delivery : IsDeliveredHere (delivered_in a r.view) = said.delivery in
       let agree : AgreesWith group a = agrees f premises.family c m in
       let store = store-is f premises.family c m made.beginning (right sv premises c m made.beginning made.from) r.view said.holds in
-      let front : IsPrefixOf (stands.before ++ stands.at ∷ []) (delivered_in a r.view) = (
-        stands.behind,
-        append_assoc stands.before (stands.at ∷ []) stands.behind ∙ sym stands.parts,
+      let front : IsPrefixOf (delivery.before ++ delivery.at ∷ []) (delivered_in a r.view) = (
+        delivery.behind,
+        append_assoc delivery.before (delivery.at ∷ []) delivery.behind ∙ sym delivery.parts,
       ) in
       record {
         by = a;
         correct = mem-Contains (accounts f) a (in-accounts f c m);
-        stands = stands;
+        delivery = delivery;
         place = said.place;
         position = said.position;
         payload_is = said.payload;
-        front = prefix-trans (without_places (stands.before ++ stands.at ∷ [])) (without_places (delivered_in a r.view)) (group.sequence r.view)
-            (prefix-map letter_of (stands.before ++ stands.at ∷ []) (delivered_in a r.view) front) (agree.prefixes r.view);
+        front = prefix-trans (without_places (delivery.before ++ delivery.at ∷ [])) (without_places (delivered_in a r.view)) (group.sequence r.view)
+            (prefix-map letter_of (delivery.before ++ delivery.at ∷ []) (delivered_in a r.view) front) (agree.prefixes r.view);
         answer = said.answer
-            ∙ (λ i. answer_to (store_after (store i) (payloads_of stands.before)) stands.at.payload)
-            ∙ ap (answer_to (store_after (store_below group r.view) (payloads_of stands.before))) (sym said.payload);
+            ∙ (λ i. answer_to (store_after (store i) (payloads_of delivery.before)) delivery.at.payload)
+            ∙ ap (answer_to (store_after (store_below group r.view) (payloads_of delivery.before))) (sym said.payload);
       }
 
   -- ---- of what is accepted

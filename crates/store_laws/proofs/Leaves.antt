@@ -9,7 +9,7 @@ use Rattle.pool_laws.proofs.Members.{Mem, map-mem, mem-All}
 use Rattle.pool_laws.proofs.Places.{Compared, ahead, behind, compared, level}
 use Rattle.store_defs.specs.Stores.{Store, answer_to, store_after, store_bytes}
 use Rattle.store_defs.specs.Records.{Reply, StateRecord, reply_body, state_body}
-use Rattle.store_defs.specs.Holding.{Beginning, Gives, Replies, Stands, delivered_below, genesis, payloads_of, store_at, store_below}
+use Rattle.store_defs.specs.Holding.{Beginning, Gives, Replies, IsDeliveredHere, delivered_below, genesis, payloads_of, store_at, store_below}
 use Rattle.store_defs.specs.Laws.{Begins, MadeReply, MadeState, OneBodyPerLeaf, OneReplyPerLeaf, OneStatePerLeaf, ServicePremises, Services, TookIn}
 use Rattle.store_laws.proofs.Holding.{store-is}
 use Rattle.store_laws.proofs.Joining.{right}
@@ -54,7 +54,7 @@ same-place (b ∷ bs) (d ∷ ds) at at' xs' ys' e long =
     tail x y xs ys e = cc
 
 module _ (a : Account) (b b' : Beginning) (leaf : ℕ) (r s : Reply) (one : Replies a b leaf r) (two : Replies a b' leaf s) where
-  within : {ds : List Delivered} (at : Stands ds) → length at.before < length ds
+  within : {ds : List Delivered} (at : IsDeliveredHere ds) → length at.before < length ds
   within {ds} at =
       let long = ap length at.parts in
       let parts = length-append at.before (at.at ∷ at.behind) in
@@ -65,23 +65,23 @@ module _ (a : Account) (b b' : Beginning) (leaf : ℕ) (r s : Reply) (one : Repl
     where
       go : Compared r.view s.view → r.view ≡ s.view
       go (ahead lt) = absurd
-          (let a' = earlier a r.view s.view (length one.stands.before) (length two.stands.before) lt (within one.stands) in
+          (let a' = earlier a r.view s.view (length one.delivery.before) (length two.delivery.before) lt (within one.delivery) in
           let p = one.leaf_is in let q = two.leaf_is in omega (arith, a', p, q))
       go (level e) = e
       go (behind lt) = absurd
-          (let a' = earlier a s.view r.view (length two.stands.before) (length one.stands.before) lt (within two.stands) in
+          (let a' = earlier a s.view r.view (length two.delivery.before) (length one.delivery.before) lt (within two.delivery) in
           let p = one.leaf_is in let q = two.leaf_is in omega (arith, a', p, q))
 
-  before-long : length one.stands.before ≡ length two.stands.before
+  before-long : length one.delivery.before ≡ length two.delivery.before
   before-long =
       let p = one.leaf_is in
       let q = two.leaf_is in
       let same : delivered_below a r.view ≡ delivered_below a s.view = ap (delivered_below a) view-is in
       omega (arith, p, q, same)
 
-  places : (one.stands.before ≡ two.stands.before) × (one.stands.at ≡ two.stands.at)
-  places = same-place one.stands.before two.stands.before one.stands.at two.stands.at one.stands.behind two.stands.behind
-      (sym one.stands.parts ∙ ap (delivered_in a) view-is ∙ two.stands.parts) before-long
+  places : (one.delivery.before ≡ two.delivery.before) × (one.delivery.at ≡ two.delivery.at)
+  places = same-place one.delivery.before two.delivery.before one.delivery.at two.delivery.at one.delivery.behind two.delivery.behind
+      (sym one.delivery.parts ∙ ap (delivered_in a) view-is ∙ two.delivery.parts) before-long
 
   -- with the same store before the view, the bodies are one
   pub one-body : (group : List ℕ) → store_at a b r.view ≡ store_at a b' s.view → reply_body group r ≡ reply_body group s

@@ -17,7 +17,7 @@ use Rattle.pool_laws.proofs.Tests.{some-same}
 use Rattle.safety_laws.proofs.OwnPayloads.{cause_and_order}
 use Rattle.store_defs.specs.Stores.{answer_to, store_after}
 use Rattle.store_defs.specs.Votes.{Content}
-use Rattle.store_defs.specs.Holding.{Stands, payloads_of, payloads_in, store_below}
+use Rattle.store_defs.specs.Holding.{IsDeliveredHere, payloads_of, payloads_in, store_below}
 use Rattle.store_defs.specs.Laws.{IsAnswerOf, OneAnswer}
 use Rattle.store_laws.proofs.Holding.{same-payloads}
 use Rattle.store_laws.proofs.Leaves.{same-place}
@@ -27,7 +27,7 @@ at-end : {A : Type 0} (xs : List A) (x : A) (ys : List A) → slice_get (xs ++ x
 at-end xs x ys = subst (λ zs. slice_get zs (length xs) ≡ Some x) (append_assoc xs (x ∷ []) ys)
     (slice_get-front (xs ++ x ∷ []) ys (length xs) x (slice_get-last xs x (length xs) refl))
 
-module _ (ds : List Delivered) (s : Stands ds) where
+module _ (ds : List Delivered) (s : IsDeliveredHere ds) where
   below-places : s.at.place < places_in ds
   below-places =
       let there : Mem s.at ds = subst (Mem s.at) (sym s.parts) (mem-behind s.before (s.at ∷ s.behind) s.at (inl refl)) in
@@ -66,7 +66,7 @@ module _ (f : Family) (x : ℕ) (payload other : List ℕ) (c d : Content) (prem
   sound : Sound (accounts f) (keyed f.setting)
   sound = cause_and_order f premises
 
-  places-is : one.stands.at.place ≡ two.stands.at.place
+  places-is : one.delivery.at.place ≡ two.delivery.at.place
   places-is = sym one.place ∙ place ∙ two.place
 
   batches : HaveSameBatches (delivered_in one.by x) (delivered_in two.by x)
@@ -74,56 +74,56 @@ module _ (f : Family) (x : ℕ) (payload other : List ℕ) (c d : Content) (prem
       (All-mem (λ (a : Account). All (λ b. (x : ℕ) → HaveSameBatches (delivered_in a x) (delivered_in b x)) (accounts f)) (accounts f) one.by
       sound.placed.same (Contains-mem (accounts f) one.by one.correct)) (Contains-mem (accounts f) two.by two.correct) x
 
-  same-message : one.stands.at.message ≡ two.stands.at.message
+  same-message : one.delivery.at.message ≡ two.delivery.at.message
   same-message =
-      let mine = in-batch (delivered_in one.by x) one.stands in
-      let its = in-batch (delivered_in two.by x) two.stands in
-      let lt : one.stands.at.place < places_in (delivered_in two.by x) =
-      subst (λ k. k < places_in (delivered_in two.by x)) (sym places-is) (below-places (delivered_in two.by x) two.stands) in
-      let same = batches one.stands.at.place (below-places (delivered_in one.by x) one.stands) lt in
-      let index : length (at_place one.stands.at.place one.stands.before) ≡ length (at_place two.stands.at.place two.stands.before) =
+      let mine = in-batch (delivered_in one.by x) one.delivery in
+      let its = in-batch (delivered_in two.by x) two.delivery in
+      let lt : one.delivery.at.place < places_in (delivered_in two.by x) =
+      subst (λ k. k < places_in (delivered_in two.by x)) (sym places-is) (below-places (delivered_in two.by x) two.delivery) in
+      let same = batches one.delivery.at.place (below-places (delivered_in one.by x) one.delivery) lt in
+      let index : length (at_place one.delivery.at.place one.delivery.before) ≡ length (at_place two.delivery.at.place two.delivery.before) =
       sym one.position ∙ position ∙ two.position in
-      some-same one.stands.at.message two.stands.at.message
+      some-same one.delivery.at.message two.delivery.at.message
       (sym mine
       ∙ (λ i. slice_get (same i) (index i))
-      ∙ ap (λ k. slice_get (batch_at k (delivered_in two.by x)) (length (at_place two.stands.at.place two.stands.before))) places-is
+      ∙ ap (λ k. slice_get (batch_at k (delivered_in two.by x)) (length (at_place two.delivery.at.place two.delivery.before))) places-is
       ∙ its)
 
-  first-letters : without_places one.stands.before ++ letter_of one.stands.at ∷ one.front.0 ≡ sequence
-  first-letters = letters one.stands.before one.stands.at sequence one.front
+  first-letters : without_places one.delivery.before ++ letter_of one.delivery.at ∷ one.front.0 ≡ sequence
+  first-letters = letters one.delivery.before one.delivery.at sequence one.front
 
-  second-letters : without_places two.stands.before ++ letter_of two.stands.at ∷ two.front.0 ≡ sequence
-  second-letters = letters two.stands.before two.stands.at sequence two.front
+  second-letters : without_places two.delivery.before ++ letter_of two.delivery.at ∷ two.front.0 ≡ sequence
+  second-letters = letters two.delivery.before two.delivery.at sequence two.front
 
-  first-at : slice_get sequence (length (without_places one.stands.before)) ≡ Some (letter_of one.stands.at)
-  first-at = subst (λ ls. slice_get ls (length (without_places one.stands.before)) ≡ Some (letter_of one.stands.at)) first-letters
-      (at-end (without_places one.stands.before) (letter_of one.stands.at) one.front.0)
+  first-at : slice_get sequence (length (without_places one.delivery.before)) ≡ Some (letter_of one.delivery.at)
+  first-at = subst (λ ls. slice_get ls (length (without_places one.delivery.before)) ≡ Some (letter_of one.delivery.at)) first-letters
+      (at-end (without_places one.delivery.before) (letter_of one.delivery.at) one.front.0)
 
-  second-at : slice_get sequence (length (without_places two.stands.before)) ≡ Some (letter_of two.stands.at)
-  second-at = subst (λ ls. slice_get ls (length (without_places two.stands.before)) ≡ Some (letter_of two.stands.at)) second-letters
-      (at-end (without_places two.stands.before) (letter_of two.stands.at) two.front.0)
+  second-at : slice_get sequence (length (without_places two.delivery.before)) ≡ Some (letter_of two.delivery.at)
+  second-at = subst (λ ls. slice_get ls (length (without_places two.delivery.before)) ≡ Some (letter_of two.delivery.at)) second-letters
+      (at-end (without_places two.delivery.before) (letter_of two.delivery.at) two.front.0)
 
-  same-length : length (without_places one.stands.before) ≡ length (without_places two.stands.before)
-  same-length = go (compared (length (without_places one.stands.before)) (length (without_places two.stands.before)))
+  same-length : length (without_places one.delivery.before) ≡ length (without_places two.delivery.before)
+  same-length = go (compared (length (without_places one.delivery.before)) (length (without_places two.delivery.before)))
     where
       once : (i j : ℕ) (a b : Letter) → i < j → slice_get sequence i ≡ Some a → slice_get sequence j ≡ Some b → a.message ≢ b.message
       once = all-pairs (λ (a b : Letter). a.message ≢ b.message) sequence (sound.once x)
 
-      go : Compared (length (without_places one.stands.before)) (length (without_places two.stands.before))
-          → length (without_places one.stands.before) ≡ length (without_places two.stands.before)
-      go (ahead lt) = absurd (once _ _ (letter_of one.stands.at) (letter_of two.stands.at) lt first-at second-at same-message)
+      go : Compared (length (without_places one.delivery.before)) (length (without_places two.delivery.before))
+          → length (without_places one.delivery.before) ≡ length (without_places two.delivery.before)
+      go (ahead lt) = absurd (once _ _ (letter_of one.delivery.at) (letter_of two.delivery.at) lt first-at second-at same-message)
       go (level e) = e
-      go (behind lt) = absurd (once _ _ (letter_of two.stands.at) (letter_of one.stands.at) lt second-at first-at (sym same-message))
+      go (behind lt) = absurd (once _ _ (letter_of two.delivery.at) (letter_of one.delivery.at) lt second-at first-at (sym same-message))
 
-  same : (without_places one.stands.before ≡ without_places two.stands.before) × (letter_of one.stands.at ≡ letter_of two.stands.at)
-  same = same-place (without_places one.stands.before) (without_places two.stands.before) (letter_of one.stands.at) (letter_of two.stands.at)
+  same : (without_places one.delivery.before ≡ without_places two.delivery.before) × (letter_of one.delivery.at ≡ letter_of two.delivery.at)
+  same = same-place (without_places one.delivery.before) (without_places two.delivery.before) (letter_of one.delivery.at) (letter_of two.delivery.at)
       one.front.0 two.front.0 (first-letters ∙ sym second-letters) same-length
 
   pub payload-is : payload ≡ other
   payload-is = one.payload_is ∙ ap (λ (l : Letter). l.payload) same.1 ∙ sym two.payload_is
 
-  payloads-is : payloads_of one.stands.before ≡ payloads_of two.stands.before
-  payloads-is = sym (same-payloads one.stands.before) ∙ ap payloads_in same.0 ∙ same-payloads two.stands.before
+  payloads-is : payloads_of one.delivery.before ≡ payloads_of two.delivery.before
+  payloads-is = sym (same-payloads one.delivery.before) ∙ ap payloads_in same.0 ∙ same-payloads two.delivery.before
 
   pub answer-is : c.answer ≡ d.answer
   answer-is = one.answer ∙ (λ i. answer_to (store_after (store_below (group_of (accounts f)) x) (payloads-is i)) (payload-is i)) ∙ sym two.answer

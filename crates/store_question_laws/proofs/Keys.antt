@@ -98,7 +98,7 @@ module _ (scheme : Scheme) (roster : List ℕ) (k : ℕ × List ℕ) where
 -- ---- the first line of a process, and its key
 
 module _ (kit : Kit) where
-  record Says (p : ℕ) (line : Option (List ℕ)) (key : Option (List ℕ)) : Type 0 where
+  record SaysKey (p : ℕ) (line : Option (List ℕ)) (key : Option (List ℕ)) : Type 0 where
     bytes : List ℕ
     said : List ℕ
     line_is : line ≡ Some bytes
@@ -107,7 +107,7 @@ module _ (kit : Kit) where
     feed : has_byte line_feed bytes ≡ false
 
   abbrev First : ℕ → Option (List ℕ) → Option (List ℕ) → Type 0
-  First p line key = ((line ≡ None) × (key ≡ None)) ⊎ Says p line key
+  First p line key = ((line ≡ None) × (key ≡ None)) ⊎ SaysKey p line key
 
   firsts : (lines : Lines) (p : ℕ) → AreWithout lines → First p (first_line kit lines p) (first_key kit lines p)
   firsts [] p none = inl (refl, refl)

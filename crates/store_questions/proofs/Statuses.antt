@@ -8,17 +8,17 @@ use Rattle.kit_reading.specs.Fronts.{front_fault}
 use Rattle.kit_reading.specs.Faults.{fault_of}
 use Rattle.kit_reading.specs.declared.fronts.FrontFault.{FrontFault}
 use Rattle.kit_reading.specs.declared.fronts.FrontFault.TheVariants as fronts
-use Rattle.rp_base.specs.Streams.{Says}
+use Rattle.rp_base.specs.Streams.{WritesLine}
 use Rattle.store_question_defs.specs.Inputs.{ask_input}
 use Rattle.store_questions.specs.Running.{IsMade, IsNotMade, Refused}
-use Rattle.store_questions.specs.Stops.{Tells, TellsFault, read_line, stop_text}
+use Rattle.store_questions.specs.Stops.{EndsByFault, EndsByKitFault, read_line, stop_text}
 
 module _ (errors errors_now : Option (List ℕ)) (faults faults_now : ℕ) (Nothing : Type 0) where
   abbrev Fault : Option KitFault → ℕ → Type 0
-  Fault o r = TellsFault errors errors_now faults faults_now Nothing o r
+  Fault o r = EndsByKitFault errors errors_now faults faults_now Nothing o r
 
   abbrev Told : FrontFault → ℕ → Type 0
-  Told e r = Tells errors errors_now faults faults_now Nothing e r
+  Told e r = EndsByFault errors errors_now faults faults_now Nothing e r
 
   fault_only : (o : Option KitFault) (r : ℕ) → Fault o r → (r ≡ 1) ⊎ (r ≡ 7)
   fault_only None r t = inl t.0
@@ -37,7 +37,7 @@ module _ (errors errors_now : Option (List ℕ)) (faults faults_now : ℕ) (Noth
     | inr (inr a) ↦ seven (sym is ∙ a)
   ]
 
-  pub at_read : (e : FrontFault) (r : ℕ) → Told e r → r ≡ 3 → (e ≡ fronts.Read) × Says read_line errors errors_now faults faults_now
+  pub at_read : (e : FrontFault) (r : ℕ) → Told e r → r ≡ 3 → (e ≡ fronts.Read) × WritesLine read_line errors errors_now faults faults_now
   at_read fronts.Read r t is = (refl, t.1)
   at_read (fronts.Kit fault) r t is = elim (fault_only (fault_of fault) r t) [
     | inl one ↦ absurd (omega (arith, one, is))
@@ -47,7 +47,7 @@ module _ (errors errors_now : Option (List ℕ)) (faults faults_now : ℕ) (Noth
   pub record Faulty (o : Option KitFault) : Type 0 where
     pub fault : KitFault
     pub is : o ≡ Some fault
-    pub said : Says (stop_text fault) errors errors_now faults faults_now
+    pub said : WritesLine (stop_text fault) errors errors_now faults faults_now
 
   fault_at : (o : Option KitFault) (r : ℕ) → Fault o r → r ≡ 7 → Faulty o
   fault_at None r t is = absurd (omega (arith, t.0, is))

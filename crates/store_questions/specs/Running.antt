@@ -5,7 +5,7 @@
 --   inputs that say what they hold: IsMade*, IsNotMade*
 use Rattle.std.specs.Prelude.{ℕ, List, Option, IsSomeAnd, IsOk, IsErr, Ok, Err}
 use Rattle.std.specs.Io.KnownBytes.{Appends, Consumes, IsAtEnd}
-use Rattle.rp_base.specs.Streams.{AppendsPrefix, Says}
+use Rattle.rp_base.specs.Streams.{AppendsPrefix, WritesLine}
 use Rattle.line_input.specs.Places.{Ends, Settles}
 use Rattle.kit_defs.specs.KitReading.{KitFault}
 use Rattle.store_question_defs.specs.Inputs.{ask_input}
@@ -32,7 +32,7 @@ pub record MadeInPart (payload : List ℕ) (before now old new : Option (List �
 pub record Refused (payload : List ℕ) (before now errors errors_now : Option (List ℕ)) (faults faults_now : ℕ) : Type 0 where
   pub fault : KitFault
   pub is : Settles (ask_input payload) before now (Err fault)
-  pub said : Says (stop_text fault) errors errors_now faults faults_now
+  pub said : WritesLine (stop_text fault) errors errors_now faults faults_now
 
 -- the input has no fault
 abbrev pub IsMade : List ℕ → Option (List ℕ) → Type 0

@@ -2,9 +2,9 @@
 ghost use Rattle.std.specs.Prelude.{◌≡◌, ◌++◌, ◌∷◌, [], codes, IfOk, OnOk, option_map};
 ghost use Rattle.std.specs.Fmt.{decimal};
 ghost use Rattle.text_defs.specs.Words.{line_text, space};
-ghost use Rattle.rp_base.specs.Streams.{Says};
+ghost use Rattle.rp_base.specs.Streams.{WritesLine};
 ghost use Rattle.kit_reading.specs.Faults.{fault_of};
-ghost use Rattle.store_questions.specs.Stops.{Tells, TellsFault, stop_text};
+ghost use Rattle.store_questions.specs.Stops.{EndsByFault, EndsByKitFault, stop_text};
 
 use kit_reading::{FrontFault, KitFault};
 use rp_base::{NoMemory, Sink, write_all};
@@ -46,13 +46,13 @@ fn fault_line(alloc: Global, fault: KitFault) -> Result<Option<Vec<u8>>, NoMemor
 
 // Writes a line, or a prefix of it where a write fails: a fault is no more than that.
 fn say<E: Sink>(errors: &mut E, line: &[u8])
-    ensures { Says line.now (E.written errors.old) (E.written errors.new) (E.faults errors.old) (E.faults errors.new) }
+    ensures { WritesLine line.now (E.written errors.old) (E.written errors.new) (E.faults errors.old) (E.faults errors.new) }
 {
     let _ = write_all(errors, line);
 }
 
 fn tell_fault<E: Sink>(alloc: Global, errors: &mut E, fault: KitFault) -> u8
-    ensures { TellsFault (E.written errors.old) (E.written errors.new) (E.faults errors.old) (E.faults errors.new) (errors.new ≡ errors.old)
+    ensures { EndsByKitFault (E.written errors.old) (E.written errors.new) (E.faults errors.old) (E.faults errors.new) (errors.new ≡ errors.old)
         (fault_of fault) result }
 {
     let Ok(Some(line)) = fault_line(alloc, fault) else {
@@ -64,7 +64,7 @@ fn tell_fault<E: Sink>(alloc: Global, errors: &mut E, fault: KitFault) -> u8
 
 /// Writes the line that says why nothing is made, where there is one and memory for it, and answers the status.
 pub(crate) fn tell<E: Sink>(alloc: Global, errors: &mut E, fault: FrontFault) -> u8
-    ensures { Tells (E.written errors.old) (E.written errors.new) (E.faults errors.old) (E.faults errors.new) (errors.new ≡ errors.old)
+    ensures { EndsByFault (E.written errors.old) (E.written errors.new) (E.faults errors.old) (E.faults errors.new) (errors.new ≡ errors.old)
         fault result }
 {
     match fault {

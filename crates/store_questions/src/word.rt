@@ -2,7 +2,7 @@
 ghost use Rattle.std.specs.Prelude.{◌≡◌, ◌≢◌, ◌⊎◌, codes};
 ghost use Rattle.rp_base.specs.Causes.{Rose};
 ghost use Rattle.std.specs.Io.KnownBytes.{Appends};
-ghost use Rattle.rp_base.specs.Streams.{AppendsPrefix, Says};
+ghost use Rattle.rp_base.specs.Streams.{AppendsPrefix, WritesLine};
 ghost use Rattle.store_questions.specs.Running.{IsMade, IsNotMade, Made, MadeInPart, Refused};
 
 use crate::reading::make_input;
@@ -53,7 +53,7 @@ pub fn write_question<S: Source, K: Sink, E: Sink>(
     // 3: exactly where the source failed; the line that says so was written to `errors`.
     ensures read { result ≡ 3 → Rose (S.faults input.old) (S.faults input.new) }
     ensures no_read { result ≢ 3 → S.faults input.new ≡ S.faults input.old }
-    ensures read_line { result ≡ 3 → Says (codes "stop 3 read\n")
+    ensures read_line { result ≡ 3 → WritesLine (codes "stop 3 read\n")
         (E.written errors.old) (E.written errors.new) (E.faults errors.old) (E.faults errors.new) }
 
     // 4: exactly where the sink failed; a prefix of the text was written and nothing else.

@@ -4,7 +4,7 @@ use Rattle.std.specs.Prelude.{◌≢◌, ◌==◌, if◌then◌else◌, option_a
 use Rattle.std.specs.Option.{option_map_or}
 use Rattle.std.proofs.lemmas.Bool.{eq-eqb, eqb-true}
 use Rattle.node_defs.specs.Nodes.{Appends, Binds, Finishes, Marks, ReadsLine, ReceivesOn, Rests, SendsTo, Steps, Writes}
-use Rattle.node_service.specs.Histories.{Asks, Call, Cast, Note, Process, Serves, TellsOf, Words}
+use Rattle.node_service.specs.Histories.{Asks, Call, Cast, Note, Process, Serves, NotesOf, Words}
 use Rattle.store_server.specs.Places.{Server, after_note}
 use Rattle.store_service.specs.Service.{Serving, after_call, after_noted, after_own, after_worded, here_of, serving, with_new, with_server, worded, worded_of}
 use Rattle.store_service.specs.Laws.{OthersStay, OwnCallsTell, OwnChanges}
@@ -95,7 +95,7 @@ module _ (p : ℕ) (xs : List Serving) (x : Serving) (found : serving p xs ≡ S
   -- one call
   call-so : (c : Cast) (shown : List Process) (call : Call) → call ≢ Serves
       → serving p (after_call xs c shown call) ≡ Some (after_own p c shown call x)
-  call-so c shown (TellsOf q n) other = reported-so q n (q == p) refl
+  call-so c shown (NotesOf q n) other = reported-so q n (q == p) refl
   call-so c shown (Words q line) other = heard-so c (here_of shown) q line (q == p) refl
   call-so c shown Serves other = absurd (other refl)
   call-so c shown (Binds port) other = found

@@ -5,7 +5,7 @@ use Rattle.std.specs.Option.{option_map_or}
 use Rattle.std.proofs.lemmas.List.Elements.{All-nil}
 use Rattle.node_service.specs.Answers.{CanBeSent, HasNone, SaysTo}
 use Rattle.node_service.specs.Histories as defs
-use Rattle.node_service.specs.Histories.{Answer, Asked, Asks, Call, Cast, Done, Process, Said, Sending, Serves, TellsOf, Words, one_asked}
+use Rattle.node_service.specs.Histories.{Answer, Asked, Asks, Call, Cast, Done, Process, Said, Sending, Serves, NotesOf, Words, one_asked}
 use Rattle.store_server.specs.Places as plain
 use Rattle.store_server.specs.Places.{payloads_of}
 use Rattle.store_server.specs.declared.server.Server.{Server}
@@ -80,13 +80,13 @@ module _ (h : List Asked) (v : Servers) (has : HasServed v h) where
       -- a note was given
       pub tells : (shown : List Process) (p : ℕ) (note : defs.Note) (text : List ℕ)
           → ((xs : List Serving) → AreThese xs v.servers.items → (text ≡ noted p note xs) × AreThese (after_noted p note xs) w.servers.items)
-          → HasServed w (h ++ one_asked c shown (TellsOf p note) (Said text []))
+          → HasServed w (h ++ one_asked c shown (NotesOf p note) (Said text []))
       tells shown p note text reported =
-          one-more w (record { cast = c; shown = shown; call = TellsOf p note; answer = Said text [] }) step
+          one-more w (record { cast = c; shown = shown; call = NotesOf p note; answer = Said text [] }) step
         where
           step : (o : Option (List Serving)) → Has v o
-              → IsServed o (record { cast = c; shown = shown; call = TellsOf p note; answer = Said text [] })
-              × Has w (after_one o (record { cast = c; shown = shown; call = TellsOf p note; answer = Said text [] }))
+              → IsServed o (record { cast = c; shown = shown; call = NotesOf p note; answer = Said text [] })
+              × Has w (after_one o (record { cast = c; shown = shown; call = NotesOf p note; answer = Said text [] }))
           step None f = (tt, λ e. tt)
           step (Some xs) f = let t = reported xs (f kept) in (ap (λ (u : List ℕ). Said u []) t.0, λ e. t.1)
 

@@ -23,8 +23,8 @@ same-note Spent = refl
 same-note (Halted delivered cut) = refl
 
 -- so much was said, and these are the servers then
-abbrev pub Tells : ℕ → defs.Note → List Serving → List ℕ → List Server → Type 0
-Tells p n xs text new = (text ≡ noted p n xs) × AreThese (after_noted p n xs) new
+abbrev pub NoteIsWritten : ℕ → defs.Note → List Serving → List ℕ → List Server → Type 0
+NoteIsWritten p n xs text new = (text ≡ noted p n xs) × AreThese (after_noted p n xs) new
 
 module _ (p : ℕ) (n : Note) (xs : List Serving) (old : List Server) (are : AreThese xs old) where
   -- the process has its server at this place
@@ -32,13 +32,13 @@ module _ (p : ℕ) (n : Note) (xs : List Serving) (old : List Server) (are : Are
       → at < length old → server ≡ get_or old at server → before ≡ []
       → ((q : Place) (s : plain.Server) → IsServer q s server → IsServer q (after_note q s (note_of n)) new)
       → ((q : Place) (s : plain.Server) → IsServer q s server → text ≡ before ++ noted_text q s (note_of n))
-      → Tells p (note n) xs text (slice_set old at new)
+      → NoteIsWritten p (note n) xs text (slice_set old at new)
   reported-at at server new before text is low is-at none after reported =
       let spot = spot-at p xs old at are is in
       let x = spot.one in
       let here : IsServer x.place x.server server =
       subst (IsServer x.place x.server) (sym (same-server old at server spot.server low is-at spot.at)) spot.is in
-      subst (λ (m : defs.Note). Tells p m xs text (slice_set old at new)) (same-note n) (
+      subst (λ (m : defs.Note). NoteIsWritten p m xs text (slice_set old at new)) (same-note n) (
         reported x.place x.server here ∙ ap (λ (t : List ℕ). t ++ noted_text x.place x.server (note_of n)) none
             ∙ sym (ap (λ (o : Option Serving). option_map_or (λ y. noted_text y.place y.server (note_of n)) o []) spot.found),
         subst (λ (ys : List Serving). AreThese ys (slice_set old at new))
@@ -47,7 +47,7 @@ module _ (p : ℕ) (n : Note) (xs : List Serving) (old : List Server) (are : Are
       )
 
   -- it has none
-  pub reported-none : (text : List ℕ) → None ≡ position_from (λ x. whose x == p) 0 old → text ≡ [] → Tells p (note n) xs text old
+  pub reported-none : (text : List ℕ) → None ≡ position_from (λ x. whose x == p) 0 old → text ≡ [] → NoteIsWritten p (note n) xs text old
   reported-none text is none =
       let found = none-at p xs old are is in (
         none ∙ sym (ap (λ (o : Option Serving). option_map_or (λ y. noted_text y.place y.server (note n)) o []) found),

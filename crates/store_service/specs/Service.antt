@@ -13,7 +13,7 @@
 --   histories: after_first*, IsFirst*, after_one, IsServed*, after_all, AreServed, after_owns*
 use Rattle.std.specs.Prelude.{◌≡◌, ℕ, ◌==◌, if◌then◌else◌, List, [], ◌∷◌, find, flat_map, map, option_and_then, Option, Some, None}
 use Rattle.std.specs.Option.{option_map_or}
-use Rattle.node_service.specs.Histories.{Answer, Asked, Asks, Call, Cast, Done, Note, Process, Said, Serves, TellsOf, Words}
+use Rattle.node_service.specs.Histories.{Answer, Asked, Asks, Call, Cast, Done, Note, Process, Said, Serves, NotesOf, Words}
 use Rattle.node_service.specs.Kits.{Kit}
 use Rattle.store_server.specs.Places.{Place, Secret, Server, after_note, keys_text, line_worded, noted_text, payloads_of, scheme_of, server_of}
 use Rattle.store_server.specs.Serving.{place_with}
@@ -102,20 +102,20 @@ after_worded c here p line xs = option_map_or (λ w. with_server p w.1 xs) (word
 -- what it answers, with these servers
 abbrev pub answer_to : List Serving → Cast → List Process → Call → Answer
 answer_to xs c shown Serves = Said (keys_of (begun c shown)) []
-answer_to xs c shown (TellsOf p note) = Said (noted p note xs) []
+answer_to xs c shown (NotesOf p note) = Said (noted p note xs) []
 answer_to xs c shown (Words p line) = option_map_or (λ w. Said w.0 []) (worded c (here_of shown) p line xs) Done
 answer_to xs c shown call = Done
 
 -- its servers then
 abbrev pub after_call : List Serving → Cast → List Process → Call → List Serving
 after_call xs c shown Serves = begun c shown
-after_call xs c shown (TellsOf p note) = after_noted p note xs
+after_call xs c shown (NotesOf p note) = after_noted p note xs
 after_call xs c shown (Words p line) = after_worded c (here_of shown) p line xs
 after_call xs c shown call = xs
 
 -- what a call makes of the server of process p: its notes and its lines change it, all else leaves it
 abbrev pub after_own : ℕ → Cast → List Process → Call → Serving → Serving
-after_own p c shown (TellsOf q note) x = if q == p then with_new (after_note x.place x.server note) x else x
+after_own p c shown (NotesOf q note) x = if q == p then with_new (after_note x.place x.server note) x else x
 after_own p c shown (Words q line) x = if q == p then option_map_or (λ w. with_new w.1 x) (worded_of c (here_of shown) p line x) x else x
 after_own p c shown call x = x
 

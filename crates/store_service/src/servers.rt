@@ -1,8 +1,8 @@
 //! The servers of a node's hosted processes, as its service.
 ghost use Rattle.std.specs.Prelude.{◌≡◌, ◌∷◌, [], ℕ, List, None, IfOk, OnErr, OnOk};
-ghost use Rattle.node_service.specs.Histories.{Asked, Cast, Process, TellsOf, Version, cast_of};
+ghost use Rattle.node_service.specs.Histories.{Asked, Cast, Process, NotesOf, Version, cast_of};
 ghost use Rattle.node_service.specs.Words.{IsHosted, note as note_of};
-ghost use Rattle.node_service.specs.Answers.{AnswersLine, GoesOn, Tells};
+ghost use Rattle.node_service.specs.Answers.{AnswersLine, GoesOn, HasAnswered};
 ghost use Rattle.store_server.specs.Places.{most_state_line_bytes};
 
 use crate::beginning::begin_all;
@@ -39,7 +39,7 @@ impl Servers {
     // What the server of a process says of a note is appended to the lines.
     fn tell(&mut self, p: Pid, note: &Note, lines: &mut Vec<u8>) -> Result<(), NoMemory>
         ensures tells { (c : Cast) (now : Process) (h : List Asked) → HasServed self.old h
-            → OnOk result (Tells HasServed self.new h c (now ∷ []) (TellsOf p (note_of note.now)) lines.old.items lines.new.items) }
+            → OnOk result (HasAnswered HasServed self.new h c (now ∷ []) (NotesOf p (note_of note.now)) lines.old.items lines.new.items) }
         ensures more { GoesOn lines.old.items lines.new.items }
     {
         if self.lost {

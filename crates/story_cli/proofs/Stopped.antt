@@ -4,7 +4,7 @@ use Rattle.std.specs.Prelude.{IsErrOf, IsOk, IsSomeAnd, codes}
 use Rattle.std.proofs.lemmas.List.{append-nil}
 use lib.Seq.{take-nil}
 use Rattle.std.specs.Io.KnownBytes.{Appends, Consumes, IsAtEnd, Keeps}
-use Rattle.rp_base.specs.Streams.{Says}
+use Rattle.rp_base.specs.Streams.{WritesLine}
 use Rattle.replay_defs.specs.declared.Fault.{Fault}
 use Rattle.replay_defs.specs.Reading.{schedule_of}
 use Rattle.story_defs.specs.declared.StoryFault.{StoryFault}
@@ -89,14 +89,14 @@ nothing_more None new bytes none is = tt
 nothing_more (Some xs) None bytes none is = is
 nothing_more (Some xs) (Some ys) bytes none is = is ∙ ap (λ (l : List ℕ). xs ++ l) none ∙ append-nil xs
 
-says_nothing : (old new : Option (List ℕ)) (faults faults_now : ℕ) → Says [] old new faults faults_now → Keeps old new
+says_nothing : (old new : Option (List ℕ)) (faults faults_now : ℕ) → WritesLine [] old new faults faults_now → Keeps old new
 says_nothing old new faults faults_now (inl all) = nothing_more old new [] refl all.0
 says_nothing old new faults faults_now (inr part) = nothing_more old new (take part.0.0 []) (take-nil part.0.0) part.0.2
 
 pub says_none : (stop : Stop) (old new : Option (List ℕ)) (faults faults_now : ℕ)
-    → (status_of stop ≡ 0) ⊎ (status_of stop ≡ 1) ⊎ (status_of stop ≡ 4) → Says (line_of stop) old new faults faults_now → Keeps old new
+    → (status_of stop ≡ 0) ⊎ (status_of stop ≡ 1) ⊎ (status_of stop ≡ 4) → WritesLine (line_of stop) old new faults faults_now → Keeps old new
 says_none stop old new faults faults_now which says = says_nothing old new faults faults_now
-    (subst (λ (line : List ℕ). Says line old new faults faults_now) (mute stop which) says)
+    (subst (λ (line : List ℕ). WritesLine line old new faults faults_now) (mute stop which) says)
 
 pub stopped_so : (stop is : Stop) → stop ≡ is → IsErrOf {T = Unit {0}} (Err stop) is
 stopped_so stop is e = cc
@@ -118,7 +118,7 @@ touched r stop wrote (inr same) = inr (inr same)
 
 pub no_story : (command : Command) (before now old new : Option (List ℕ)) (faults faults_now : ℕ) (stop : Stop) (fault : StoryFault)
     → stop ≡ Story fault
-    → IsNoStory command before now fault → Says (line_of stop) old new faults faults_now
+    → IsNoStory command before now fault → WritesLine (line_of stop) old new faults faults_now
     → NoStory command before now old new faults faults_now
 no_story command before now old new faults faults_now stop fault is none says = record {
   input = none.input;
@@ -127,12 +127,12 @@ no_story command before now old new faults faults_now stop fault is none says = 
   as_story = none.as_story;
   fault = fault;
   none = none.none;
-  line = subst (λ (s : Stop). Says (line_of s) old new faults faults_now) is says;
+  line = subst (λ (s : Stop). WritesLine (line_of s) old new faults faults_now) is says;
 }
 
 pub no_schedule : (command : Command) (before now old new : Option (List ℕ)) (faults faults_now : ℕ) (stop : Stop) (fault : Fault)
     → stop ≡ Schedule fault
-    → IsNoSchedule command before now fault → Says (line_of stop) old new faults faults_now
+    → IsNoSchedule command before now fault → WritesLine (line_of stop) old new faults faults_now
     → NoSchedule command before now old new faults faults_now
 no_schedule command before now old new faults faults_now stop fault is none says = record {
   input = none.input;
@@ -141,7 +141,7 @@ no_schedule command before now old new faults faults_now stop fault is none says
   as_schedule = none.as_schedule;
   fault = fault;
   none = none.none;
-  line = subst (λ (s : Stop). Says (line_of s) old new faults faults_now) is says;
+  line = subst (λ (s : Stop). WritesLine (line_of s) old new faults faults_now) is says;
 }
 
 -- the command that the words ask for

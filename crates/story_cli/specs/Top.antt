@@ -13,7 +13,7 @@ use Rattle.std.specs.Prelude.{◌≡◌, ℕ, Bool, true, false, not, nat_eq, if
 use Rattle.std.specs.List.{flat_map, starts_with}
 use Rattle.std.specs.Io.KnownBytes.{Appends, Consumes, IsAtEnd}
 use Rattle.std.specs.declared.alloc.Global.{Global}
-use Rattle.rp_base.specs.Streams.{AppendsPrefix, Says}
+use Rattle.rp_base.specs.Streams.{AppendsPrefix, WritesLine}
 use Rattle.text_defs.specs.Words.{line_text}
 use Rattle.replay_defs.specs.declared.Fault.{Fault}
 use Rattle.replay_defs.specs.Schedules as schedules
@@ -145,7 +145,7 @@ pub record NoStory (command : Command) (before now old new : Option (List ℕ)) 
   pub as_story : takes_as_story command input ≡ true
   pub fault : StoryFault
   pub none : story_of input ≡ Err fault
-  pub line : Says (line_of (Story fault)) old new faults faults_now
+  pub line : WritesLine (line_of (Story fault)) old new faults faults_now
 
 -- The input was read to its end and taken as a schedule, and it is none. Its fault was written to standard error, or the front of that where
 -- a write failed.
@@ -156,7 +156,7 @@ pub record NoSchedule (command : Command) (before now old new : Option (List ℕ
   pub as_schedule : takes_as_story command input ≡ false
   pub fault : Fault
   pub none : schedule_of input ≡ Err fault
-  pub line : Says (line_of (Schedule fault)) old new faults faults_now
+  pub line : WritesLine (line_of (Schedule fault)) old new faults faults_now
 
 -- ---- on the way
 

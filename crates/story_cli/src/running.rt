@@ -2,7 +2,7 @@
 ghost use Rattle.std.specs.Prelude.{◌≡◌, ◌⊎◌, ◌≢◌, IfOk, OnOk, IfErr, IsErrOf};
 ghost use Rattle.std.specs.Io.KnownBytes.{Keeps};
 ghost use Rattle.rp_base.specs.Causes.{Rose};
-ghost use Rattle.rp_base.specs.Streams.{Says};
+ghost use Rattle.rp_base.specs.Streams.{WritesLine};
 ghost use Rattle.replay_defs.specs.declared.Fault.{Fault};
 ghost use Rattle.story_defs.specs.declared.StoryFault.{StoryFault};
 ghost use Rattle.story_cli.specs.Messages.{line_of, status_of};
@@ -65,7 +65,7 @@ pub fn run<S: Source, K: Sink>(
 
 /// Writes a line, or a prefix of it where a write fails: a fault is no more than that.
 pub fn say<E: Sink>(errors: &mut E, line: &[u8])
-    ensures { Says line.now (E.written errors.old) (E.written errors.new) (E.faults errors.old) (E.faults errors.new) }
+    ensures { WritesLine line.now (E.written errors.old) (E.written errors.new) (E.faults errors.old) (E.faults errors.new) }
 {
     let _ = write_all(errors, line);
 }
@@ -75,7 +75,7 @@ pub fn tell<E: Sink>(alloc: Global, errors: &mut E, stop: Stop) -> u8
     ensures write { stop ≡ Stop.Write → result ≡ 4 }
     ensures quiet { (result ≡ 0) ⊎ (result ≡ 1) ⊎ (result ≡ 4) → Keeps (E.written errors.old) (E.written errors.new) }
     ensures reported { (result ≡ 1) ⊎ ((result ≡ status_of stop)
-        × Says (line_of stop) (E.written errors.old) (E.written errors.new) (E.faults errors.old) (E.faults errors.new)) }
+        × WritesLine (line_of stop) (E.written errors.old) (E.written errors.new) (E.faults errors.old) (E.faults errors.new)) }
 {
     let Ok(line) = stop.line(alloc) else {
         return Stop::NoMemory.status();

@@ -1,7 +1,7 @@
 ghost use Rattle.std.specs.Prelude.{◌≡◌, ◌≢◌, ◌↔◌, ◌⊎◌, codes, IsSomeAnd};
 ghost use Rattle.std.specs.Io.KnownBytes.{Keeps};
 ghost use Rattle.rp_base.specs.Causes.{Rose};
-ghost use Rattle.rp_base.specs.Streams.{Says};
+ghost use Rattle.rp_base.specs.Streams.{WritesLine};
 ghost use Rattle.story_cli.specs.declared.commands.Command.{Command};
 ghost use Rattle.story_cli.specs.Top.{AskAny, Asks, Has, Made, MadeInPart, NoSchedule, NoStory};
 
@@ -34,12 +34,12 @@ pub fn story<S: Source, K: Sink, E: Sink>(
     // 2: exactly where the words are no command; nothing was read.
     ensures words { (result ≡ 2) ↔ (¬ AskAny words.now) }
     ensures unread { result ≡ 2 → input.new ≡ input.old }
-    ensures words_line { result ≡ 2 → Says (codes "stop 2 words\n")
+    ensures words_line { result ≡ 2 → WritesLine (codes "stop 2 words\n")
         (E.written errors.old) (E.written errors.new) (E.faults errors.old) (E.faults errors.new) }
 
     // 3: only where the source failed.
     ensures read { result ≡ 3 → Rose (S.faults input.old) (S.faults input.new) }
-    ensures read_line { result ≡ 3 → Says (codes "stop 3 read\n")
+    ensures read_line { result ≡ 3 → WritesLine (codes "stop 3 read\n")
         (E.written errors.old) (E.written errors.new) (E.faults errors.old) (E.faults errors.new) }
 
     // 4: only where the sink failed; a prefix was written and nothing else.

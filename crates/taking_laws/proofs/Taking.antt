@@ -27,7 +27,7 @@ use Rattle.store_defs.specs.Votes.{Valid}
 use Rattle.store_defs.specs.Words.{Give, State, StateKey}
 use Rattle.store_defs.specs.Services.{worded}
 use Rattle.store_replies.specs.Words.{HasSpelling}
-use Rattle.following_laws.specs.Runs.{Happens, Moment, Says, Step, after_step, begin, reached, turns_in}
+use Rattle.following_laws.specs.Runs.{Happens, Moment, TakesWord, Step, after_step, begin, reached, turns_in}
 use Rattle.following_laws.proofs.Growing.{in_place, longer}
 use Rattle.following_laws.proofs.Offering.{last-kept}
 use Rattle.following_laws.proofs.Replying.{notes-more, quiet-stays}
@@ -308,14 +308,14 @@ module _ (setting : Setting) (q : Place) where
   with-step m (Happens t) ok =
       let now = sees-after setting q m.process t m.server ok.numbered ok.seen ok.counts _ refl in
       record { numbered = numbered-after setting m.process t ok.numbered; seen = now.0; counts = now.1 }
-  with-step m (Says Give) ok = record { numbered = ok.numbered; seen = ok.seen; counts = ok.counts }
-  with-step m (Says (State bytes)) ok = record {
+  with-step m (TakesWord Give) ok = record { numbered = ok.numbered; seen = ok.seen; counts = ok.counts }
+  with-step m (TakesWord (State bytes)) ok = record {
     numbered = ok.numbered;
     seen = ap (λ (v : View). v.number) (offer-sees setting.valid q (payloads_of m.process.delivered) m.server bytes) ∙ ok.seen;
     counts = λ k. subst (λ last. position_at last k ≤ length (at_place k m.process.delivered))
         (sym (last-kept setting.valid q (payloads_of m.process.delivered) m.server bytes)) (ok.counts k);
   }
-  with-step m (Says (StateKey p key)) ok = record { numbered = ok.numbered; seen = ok.seen; counts = ok.counts }
+  with-step m (TakesWord (StateKey p key)) ok = record { numbered = ok.numbered; seen = ok.seen; counts = ok.counts }
 
   sees-along : (steps : List Step) (m : Moment) → Sees m → Sees (reached setting q m steps)
   unfolding reached
@@ -326,7 +326,7 @@ module _ (setting : Setting) (q : Place) where
   unfolding reached after_step run
   process-is [] m = refl
   process-is (Happens t ∷ steps) m = process-is steps (after_step setting q m (Happens t))
-  process-is (Says word ∷ steps) m = process-is steps (after_step setting q m (Says word))
+  process-is (TakesWord word ∷ steps) m = process-is steps (after_step setting q m (TakesWord word))
 
 begins : (p : Process) → Numbered p → Sees (begin p)
 unfolding server_of

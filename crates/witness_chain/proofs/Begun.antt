@@ -256,19 +256,19 @@ module _ (kit : Kit) (n : ℕ) (ahead : List ℕ) (before now : Option (List ℕ
 
       -- ---- by what was answered
 
-      abbrev Tells : Result (Option View) Stop → Type 0
-      Tells r = Makes input_words (λ (o : Option View). o) r (taken s n s.genesis next line)
+      abbrev AnswersSo : Result (Option View) Stop → Type 0
+      AnswersSo r = Makes input_words (λ (o : Option View). o) r (taken s n s.genesis next line)
 
       abbrev Wrote : Option (List ℕ) → Option (List ℕ) → Result (Option View) Stop → Type 0
       Wrote old new r = IfOk r (λ o. Appends old new (first_lines s.genesis o))
 
-      pub first_begun : (r : Result (Option View) Stop) → Tells r → (old new : Option (List ℕ)) → Wrote old new r
+      pub first_begun : (r : Result (Option View) Stop) → AnswersSo r → (old new : Option (List ℕ)) → Wrote old new r
           → IfOk r (λ o. IfSome o (λ v. BegunBy G before now old new (place kit (n + 1) v l.ahead)))
       first_begun (Ok (Some w)) shown old new wrote = record { lines = first ++ view_line w; stands = first_shows w shown; wrote = wrote }
       first_begun (Ok None) shown old new wrote = tt
       first_begun (Err stop) shown old new wrote = tt
 
-      pub first_ended : (r : Result (Option View) Stop) → Tells r → (old new : Option (List ℕ)) → Wrote old new r → r ≡ Ok None
+      pub first_ended : (r : Result (Option View) Stop) → AnswersSo r → (old new : Option (List ℕ)) → Wrote old new r → r ≡ Ok None
           → AnsweredBy G before now old new
       first_ended r shown old new wrote e = record { lines = first; all = first_ends (rw e at shown); wrote = rw e at wrote }
 
@@ -284,6 +284,6 @@ module _ (kit : Kit) (n : ℕ) (ahead : List ℕ) (before now : Option (List ℕ
       first_some (Err stops.Write) old new room unread = inl refl
       first_some (Err (stops.Input fault)) old new room unread = inr (inl refl)
 
-      pub first_faulty : (r : Result (Option View) Stop) → Tells r → (fault : Fault) → r ≡ Err (stops.Input fault) → (old new : Option (List ℕ))
+      pub first_faulty : (r : Result (Option View) Stop) → AnswersSo r → (fault : Fault) → r ≡ Err (stops.Input fault) → (old new : Option (List ℕ))
           → Appends old new first → FaultyBy G (words_of fault) before now old new
       first_faulty r shown fault e old new wrote = record { lines = first; is = first_refuses (words_of fault) (rw e at shown); wrote = wrote }

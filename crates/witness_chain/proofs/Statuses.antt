@@ -3,7 +3,7 @@ use Rattle.std.proofs.Common.{◌≡◌, ◌⊎◌, inl, inr, ℕ, ◌+◌, List
 use Rattle.std.specs.Prelude.{IsSome}
 use Rattle.std.specs.Io.KnownBytes.{Keeps}
 use Rattle.std.proofs.KnownBytes.{Appends-kept, Appends-nil}
-use Rattle.rp_base.specs.Streams.{Says}
+use Rattle.rp_base.specs.Streams.{WritesLine}
 use Rattle.kit_defs.specs.Kits.{Kit}
 use Rattle.kit_defs.specs.KitReading.{KitFault}
 use Rattle.input_defs.specs.Fronts.{Front, front_of}
@@ -38,10 +38,10 @@ renumbered before now kit go n left is leads =
 
 -- a stop of no line is told behind it
 pub in_part_stays : (answer : List ℕ → Answer) (stop : Stop) (before now old mid new : Option (List ℕ)) (f f' : ℕ) → stop ≡ Write
-    → InPartBy answer before now old mid → Says (line_of stop) mid new f f' → InPartBy answer before now old new
+    → InPartBy answer before now old mid → WritesLine (line_of stop) mid new f f' → InPartBy answer before now old new
 in_part_stays answer stop before now old mid new f f' is (inl p) said = inl (part_stays answer stop before now old mid new f f' is p said)
 in_part_stays answer stop before now old mid new f f' is (inr p) said =
-    let silent : Says [] mid new f f' = subst (λ (s : Stop). Says (line_of s) mid new f f') is said in
+    let silent : WritesLine [] mid new f f' = subst (λ (s : Stop). WritesLine (line_of s) mid new f f') is said in
     inr (record {
       all = p.all;
       is = p.is;

@@ -2,7 +2,7 @@
 ghost use Rattle.std.specs.Prelude.{◌≡◌, ◌≢◌, ◌↔◌, ◌⊎◌, ℕ, List, [], ◌∷◌, codes};
 ghost use Rattle.std.specs.Io.KnownBytes.{Consumes, Keeps};
 ghost use Rattle.rp_base.specs.Causes.{Rose};
-ghost use Rattle.rp_base.specs.Streams.{Says};
+ghost use Rattle.rp_base.specs.Streams.{WritesLine};
 ghost use Rattle.witness_chain.specs.Running.{AnswerTellsFrom, Answered, HasStatus, InPart, LinesWritten, Refused as RefusedChain, ShownAndSays};
 ghost use Rattle.witness_cli.specs.Commands.{AskAny, Asks, Chain, Convict, Judge, Proofs};
 ghost use Rattle.witness_words.specs.Running.{Convicted, ConvictedInPart, HasFindings, HasNoFindings, IsRefused, IsTaken, Proved, ProvedInPart, Refused, Takes, Unconvicted};
@@ -56,13 +56,13 @@ pub fn witness<S: Source, K: Sink, E: Sink>(
     // 2: exactly where the words are no command; nothing was read, and nothing written but the line that says so, on standard error.
     ensures words { (result ≡ 2) ↔ (¬ AskAny words.now) }
     ensures unread { result ≡ 2 → (input.new ≡ input.old) × (output.new ≡ output.old) }
-    ensures words_line { result ≡ 2 → Says (codes "stop 2 words\n")
+    ensures words_line { result ≡ 2 → WritesLine (codes "stop 2 words\n")
         (E.written errors.old) (E.written errors.new) (E.faults errors.old) (E.faults errors.new) }
     ensures quiet { result ≢ 2 → errors.new ≡ errors.old }
 
     // 3: only where the source failed. The line that says so was written and nothing else, but by chain the lines of views before it.
     ensures read { result ≡ 3 → Rose (S.faults input.old) (S.faults input.new) }
-    ensures read_line { ¬ Asks words.now Chain → result ≡ 3 → Says (codes "stop 3 read\n")
+    ensures read_line { ¬ Asks words.now Chain → result ≡ 3 → WritesLine (codes "stop 3 read\n")
         (K.written output.old) (K.written output.new) (K.faults output.old) (K.faults output.new) }
     ensures read_behind_views { Asks words.now Chain → result ≡ 3
         → ShownAndSays (codes "stop 3 read\n") (S.left input.old) (S.left input.new)

@@ -113,7 +113,7 @@ module _ (listed : List ℕ) (before now : Option (List ℕ)) where
 
     -- its journals are refused
     pub audit_reported : (f : AuditFault) (fault : Fault) → of_audit f ≡ Stopped fault
-        → sources.Tells f (audited input.kit listed input.journals) → Reported listed before now fault
+        → sources.IsFaultOf f (audited input.kit listed input.journals) → Reported listed before now fault
     audit_reported (audit_faults.Missing p) fault e h = tells (Refused (audits.Missing p)) _ fault (refused (audits.Missing p) h) refl refl (is _ fault e)
     audit_reported (audit_faults.Repeated p) fault e h = tells (Refused (audits.Repeated p)) _ fault (refused (audits.Repeated p) h) refl refl (is _ fault e)
     audit_reported (audit_faults.Entry j place) fault e h = tells (Refused (audits.Entry j place)) _ fault (refused (audits.Entry j place) h) refl refl (is _ fault e)

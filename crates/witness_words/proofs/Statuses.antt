@@ -2,7 +2,7 @@
 use Rattle.std.proofs.Common.{◌≡◌, ◌≢◌, ◌⊎◌, ◌≤◌, inl, inr, ℕ, ◌==◌, Bool, true, false, List, Option, None, Some, Result, Ok, Err, refl, sym, ap, subst, ◌∙◌, arith}
 use Rattle.std.specs.Prelude.{IsErr, IsOk}
 use Rattle.std.proofs.lemmas.Bool.{eqb-true, eqb-false}
-use Rattle.rp_base.specs.Streams.{Says}
+use Rattle.rp_base.specs.Streams.{WritesLine}
 use Rattle.line_input.specs.Places.{Ends, Settles}
 use Rattle.line_input.proofs.Places.{ends_settle, settles_all}
 use Rattle.audit_defs.specs.Audits.{Audited}
@@ -131,7 +131,7 @@ same_reason listed (Some bytes) now r status none =
 
 module _ (listed : List ℕ) (before now : Option (List ℕ)) (stop : Stop) (result : ℕ)
     (reported : (fault : Fault) → stop ≡ Input fault → Reported listed before now fault) (status : result ≢ 1 → result ≡ status_of stop) where
-  pub stops : (result ≡ 7) ⊎ (result ≡ 8) → (old new : Option (List ℕ)) (f f' : ℕ) → (result ≢ 1 → Says (line_of stop) old new f f')
+  pub stops : (result ≡ 7) ⊎ (result ≡ 8) → (old new : Option (List ℕ)) (f f' : ℕ) → (result ≢ 1 → WritesLine (line_of stop) old new f f')
       → Unconvicted listed result before now old new f f'
   stops which old new f f' says =
       let other : result ≢ 1 = λ e. elim which [ inl a ↦ omega (arith, a, e) | inr b ↦ omega (arith, b, e) ] in
@@ -140,7 +140,7 @@ module _ (listed : List ℕ) (before now : Option (List ℕ)) (stop : Stop) (res
       record {
         unread = t.0;
         is_status = t.2 ∙ ap status_of (sym at.1) ∙ sym (status other);
-        said = subst (λ (line : List ℕ). Says line old new f f') (ap line_of at.1 ∙ sym t.1) (says other);
+        said = subst (λ (line : List ℕ). WritesLine line old new f f') (ap line_of at.1 ∙ sym t.1) (says other);
       }
 
   by_stop : (s : ℕ) → ((fault : Fault) → stop ≡ Input fault → (result ≡ s) ⊎ (result ≡ 1)) → stop ≢ Read → stop ≢ Write
@@ -186,7 +186,7 @@ some_taken (Some bytes) now t none = of (judged bytes) none (all-ends judged byt
 
 module _ (before now : Option (List ℕ)) (stop : Stop) (result : ℕ) (reported : (fault : Fault) → stop ≡ Input fault → Refuses judged before now fault)
     (no_write : stop ≢ Write) (status : result ≢ 1 → result ≡ status_of stop) where
-  pub refused_so : result ≡ 7 → (old new : Option (List ℕ)) (f f' : ℕ) → (result ≢ 1 → Says (line_of stop) old new f f')
+  pub refused_so : result ≡ 7 → (old new : Option (List ℕ)) (f f' : ℕ) → (result ≢ 1 → WritesLine (line_of stop) old new f f')
       → Refused before now old new f f'
   refused_so seven old new f f' says =
       let other : result ≢ 1 = λ e. omega (arith, seven, e) in
@@ -195,7 +195,7 @@ module _ (before now : Option (List ℕ)) (stop : Stop) (result : ℕ) (reported
       record {
         why = t.why;
         is = t.is;
-        said = subst (λ (line : List ℕ). Says line old new f f') (ap line_of at.1 ∙ sym t.reported.0) (says other);
+        said = subst (λ (line : List ℕ). WritesLine line old new f f') (ap line_of at.1 ∙ sym t.reported.0) (says other);
       }
 
   -- the status, where it is not 1

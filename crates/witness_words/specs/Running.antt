@@ -6,7 +6,7 @@
 --   judge: Takes*, Refused*, IsTaken*, IsRefused*
 use Rattle.std.specs.Prelude.{◌≡◌, ℕ, List, [], ◌∷◌, ◌++◌, map, Option, Ok, Err, IsOk, IsErr, IsSomeAnd}
 use Rattle.std.specs.Io.KnownBytes.{Appends}
-use Rattle.rp_base.specs.Streams.{AppendsPrefix, Says}
+use Rattle.rp_base.specs.Streams.{AppendsPrefix, WritesLine}
 use Rattle.line_input.specs.Places.{Ends, Settles}
 use Rattle.audit_defs.specs.Audits.{Audited}
 use Rattle.audit_defs.specs.Findings.{NoFindings, audit_of, status_of, stop_line}
@@ -55,7 +55,7 @@ pub record ConvictedInPart (listed : List ℕ) (before now old new : Option (Lis
 pub record Unconvicted (listed : List ℕ) (status : ℕ) (before now old new : Option (List ℕ)) (faults faults_now : ℕ) : Type 0 where
   pub unread : Unread listed before now
   pub is_status : status_of unread.why ≡ status
-  pub said : Says (stop_line unread.why) old new faults faults_now
+  pub said : WritesLine (stop_line unread.why) old new faults faults_now
 
 -- the source says what it has left, and an audit finds something in it
 abbrev pub HasFindings : List ℕ → Option (List ℕ) → Type 0
@@ -90,7 +90,7 @@ pub record Takes (before now : Option (List ℕ)) : Type 0 where
 pub record Refused (before now old new : Option (List ℕ)) (faults faults_now : ℕ) : Type 0 where
   pub why : Refusal
   pub is : Settles judged before now (Err why)
-  pub said : Says (refusal_line why) old new faults faults_now
+  pub said : WritesLine (refusal_line why) old new faults faults_now
 
 -- the source says what it has left, and all of it is taken
 abbrev pub IsTaken : Option (List ℕ) → Type 0

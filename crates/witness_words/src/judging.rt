@@ -2,7 +2,7 @@
 ghost use Rattle.std.specs.Prelude.{◌≡◌, ◌≢◌, ◌⊎◌, ◌+◌, [], Ok, IfErr, IfOk, IsErrOf, OnOk, codes, true, false};
 ghost use Rattle.std.specs.Io.KnownBytes.{Keeps};
 ghost use Rattle.rp_base.specs.Causes.{Rose};
-ghost use Rattle.rp_base.specs.Streams.{Says};
+ghost use Rattle.rp_base.specs.Streams.{WritesLine};
 ghost use Rattle.line_input.specs.Places.{Ends, Leads};
 ghost use Rattle.audit_defs.specs.Players.{setting_of};
 ghost use Rattle.witness_defs.specs.Lines as reported;
@@ -130,7 +130,7 @@ pub fn judge<S: Source, K: Sink>(alloc: Global, input: &mut S, output: &mut K) -
 
     // 3: only where the source failed.
     ensures read { result ≡ 3 → Rose (S.faults input.old) (S.faults input.new) }
-    ensures read_line { result ≡ 3 → Says (codes "stop 3 read\n")
+    ensures read_line { result ≡ 3 → WritesLine (codes "stop 3 read\n")
         (K.written output.old) (K.written output.new) (K.faults output.old) (K.faults output.new) }
 
     // 7: what was read is not taken, and the line that says why was written and nothing else. No read failed.

@@ -2,7 +2,7 @@
 ghost use Rattle.std.specs.Prelude.{◌≡◌, ◌⊎◌, ◌∷◌, [], ℕ, IfOk, IsErrOf, codes};
 ghost use Rattle.std.specs.Io.KnownBytes.{Appends, Keeps};
 ghost use Rattle.rp_base.specs.Causes.{Rose};
-ghost use Rattle.rp_base.specs.Streams.{AppendsPrefix, Says};
+ghost use Rattle.rp_base.specs.Streams.{AppendsPrefix, WritesLine};
 ghost use Rattle.audit_defs.specs.Findings as findings;
 ghost use Rattle.audit_defs.specs.Findings.{stop_line};
 ghost use Rattle.witness_words.specs.Stops.{fault_line, fault_status};
@@ -55,7 +55,7 @@ pub fn proofs<S: Source, K: Sink>(alloc: Global, p: Pid, input: &mut S, output: 
 
     // 3: only where the source failed.
     ensures read { result ≡ 3 → Rose (S.faults input.old) (S.faults input.new) }
-    ensures read_line { result ≡ 3 → Says (codes "stop 3 read\n")
+    ensures read_line { result ≡ 3 → WritesLine (codes "stop 3 read\n")
         (K.written output.old) (K.written output.new) (K.faults output.old) (K.faults output.new) }
 
     // 4: only where the sink failed; a prefix of the lines was written and nothing else.

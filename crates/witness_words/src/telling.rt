@@ -2,7 +2,7 @@
 ghost use Rattle.std.specs.Prelude.{◌≡◌, ◌≢◌, ◌⊎◌};
 ghost use Rattle.std.specs.Io.KnownBytes.{Appends, Keeps};
 ghost use Rattle.rp_base.specs.Causes.{Rose};
-ghost use Rattle.rp_base.specs.Streams.{AppendsPrefix, Says};
+ghost use Rattle.rp_base.specs.Streams.{AppendsPrefix, WritesLine};
 ghost use Rattle.witness_words.specs.Stops.{line_of, status_of};
 
 use crate::stops::Stop;
@@ -28,7 +28,7 @@ pub(crate) fn give<K: Sink>(output: &mut K, text: &[u8]) -> u8
 pub(crate) fn tell<K: Sink>(alloc: Global, output: &mut K, stop: Stop) -> u8
     ensures silent { result ≡ 1 → Keeps (K.written output.old) (K.written output.new) }
     ensures status { result ≢ 1 → result ≡ status_of stop }
-    ensures line { result ≢ 1 → Says (line_of stop)
+    ensures line { result ≢ 1 → WritesLine (line_of stop)
         (K.written output.old) (K.written output.new) (K.faults output.old) (K.faults output.new) }
 {
     let Ok(line) = stop.line(alloc) else {

@@ -3,7 +3,7 @@ use Rattle.std.specs.Prelude.{◌↔◌, IsTrue, is_some}
 use Rattle.group_defs.specs.Views.{View, IsView}
 use Rattle.group_defs.specs.Process.{Pool}
 use Rattle.claim_pool.specs.Certificates.{content_of}
-use Rattle.image_parts.specs.Stands.{EndsView}
+use Rattle.image_parts.specs.InView.{EndsView}
 use Rattle.image_parts.proofs.Phases.{ready-read, ready-there}
 use Rattle.image_parts.proofs.phase.decided_so.Goals as goal
 

@@ -6,7 +6,7 @@ use Rattle.group_defs.specs.Process.{Pool}
 use Rattle.group_defs.specs.Certified.{is_certified}
 use Rattle.rp_base.specs.Views.{value}
 use Rattle.stmt_codec.specs.Views.{report}
-use Rattle.image_parts.specs.Stands.{EndsView}
+use Rattle.image_parts.specs.InView.{EndsView}
 use Rattle.image_parts.proofs.Phases.{decided-some}
 use Rattle.image_parts.proofs.phase.phase_of.Goals as goal
 

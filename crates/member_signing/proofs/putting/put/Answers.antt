@@ -8,7 +8,7 @@ use Rattle.group_defs.specs.Process.{Pool}
 use Rattle.group_defs.specs.Due.{may_sign}
 use Rattle.group_defs.specs.Signing.{own_claim, signs}
 use Rattle.stmt_codec.specs.Views.{claim}
-use Rattle.own_place.specs.Owns.{Tells}
+use Rattle.own_place.specs.Owns.{IsOwnOf}
 use Rattle.own_place.specs.declared.own.Own.{Own}
 use Rattle.member_state.specs.Below.{IsIn, Phase}
 use Rattle.member_laws.proofs.Ranges.{due_is_in_range}
@@ -75,7 +75,7 @@ returns-clause-puts c s signer p st may own is =
       archive = refl;
       account = refl;
     })
-    (let at : Own = c.note.new.own in subst (λ (st : Statement). Tells s (signs s signer p st) c.hear.new.pool.pool at) said tells)
+    (let at : Own = c.note.new.own in subst (λ (st : Statement). IsOwnOf s (signs s signer p st) c.hear.new.pool.pool at) said tells)
     (let at : Phase = c.close.new.phase in subst (λ (st : Statement). IsIn at (signs s signer p st)) said phase)
 
 pub returns-clause-real : goal.returns-clause-real

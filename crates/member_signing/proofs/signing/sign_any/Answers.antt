@@ -3,7 +3,7 @@ use Rattle.std.specs.Prelude.{is_some}
 use Rattle.message_defs.specs.Statements.{Statement}
 use Rattle.group_defs.specs.Due.{least_due}
 use Rattle.stmt_codec.specs.Views.{signed}
-use Rattle.due_statements.specs.Standings.{kind_of}
+use Rattle.due_statements.specs.AskedOf.{kind_of}
 use Rattle.member_signing.proofs.Going.{begins, ends-none}
 use Rattle.member_signing.proofs.signing.sign_any.Goals as goal
 

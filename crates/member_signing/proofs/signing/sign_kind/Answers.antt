@@ -6,7 +6,7 @@ use Rattle.group_defs.specs.Signing.{Signer, Signing, own_claim, signs, sign_kin
 use Rattle.rule_laws.proofs.LeastIsDue.{least_due-may}
 use Rattle.stmt_codec.specs.Views.{signed}
 use Rattle.stmt_codec.specs.declared.own.OwnClaim.{OwnClaim}
-use Rattle.due_statements.specs.Standings.{kind_of}
+use Rattle.due_statements.specs.AskedOf.{kind_of}
 use Rattle.member_signing.specs.Signed.{IsOwed, IsSigned}
 use Rattle.member_signing.proofs.ByKind.{still}
 use Rattle.member_signing.proofs.Going.{begins, ends-none, ends-spent, goes-on, same-end, signs-one}

@@ -3,7 +3,7 @@ use Rattle.std.proofs.lemmas.List.{drop_all, drop_more}
 use Rattle.group_defs.specs.Process as defs
 use Rattle.group_defs.specs.Signing.{Signing, sign_kind, sign_kinds}
 use Rattle.stmt_codec.specs.Views.{signed}
-use Rattle.due_statements.specs.Standings.{kind_of}
+use Rattle.due_statements.specs.AskedOf.{kind_of}
 use Rattle.due_statements.specs.declared.kind.Kind.{Kind}
 use Rattle.due_statements.specs.declared.kind.Kind.TheVariants.{Init}
 use Rattle.member_signing.specs.Signed.{IsSigned}

@@ -2,7 +2,7 @@ use Rattle.std.proofs.Common.{◌≡◌, ◌-◌, ◌≤◌, false, length, map,
 use Rattle.group_defs.specs.Process.{Setting, Process}
 use Rattle.group_defs.specs.Signing.{sign_kinds}
 use Rattle.stmt_codec.specs.Views.{signed}
-use Rattle.due_statements.specs.Standings.{kind_of}
+use Rattle.due_statements.specs.AskedOf.{kind_of}
 use Rattle.member_state.specs.declared.marks.Before.{Before}
 use Rattle.member_state.specs.declared.state.ProcessState.{ProcessState}
 use Rattle.member_state.specs.Marks.{Stays}

@@ -1,12 +1,12 @@
 use Rattle.std.proofs.Common.{◌≡◌, ◌∷◌, [], ℕ, List, Ok, sym, ap, subst, ◌∙◌}
 use Rattle.std.specs.List.{AllZip}
 use Rattle.audit_defs.specs.Audits.{audited}
-use Rattle.audit_core.specs.Walks.{IsPlayer, Player, Tells}
+use Rattle.audit_core.specs.Walks.{IsPlayer, Player, IsFaultOf}
 use Rattle.proof_lines.proofs.Taken.{chain-takes, text-is}
 use Rattle.proof_lines.proofs.journals.lines_in.Goals as goal
 
 pub returns-in-Err-clause-refused : goal.returns-in-Err-clause-refused
-returns-in-Err-clause-refused c = subst (λ (listed : List ℕ). Tells c.in-Err.fault (audited c.args.kit.now listed c.args.journals.now))
+returns-in-Err-clause-refused c = subst (λ (listed : List ℕ). IsFaultOf c.in-Err.fault (audited c.args.kit.now listed c.args.journals.now))
     c.alone.ensures c.in-Err.ensures.refused
 
 pub returns-in-Ok-lines_of_all-clause-found : goal.returns-in-Ok-lines_of_all-clause-found

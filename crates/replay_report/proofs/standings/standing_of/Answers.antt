@@ -4,5 +4,5 @@ use Rattle.replay_report.proofs.standings.standing_of.Goals as goal
 pub returns : goal.returns
 returns c = λ s d plays.
     let is = plays.core.is in
-    stands s d.now c.args.player.now.core _ is (c.account.ensures s d.now is) (c.phase.ensures s d.now is) (c.used.ensures s d.now is)
+    stands d.now _ (c.account.ensures s d.now is) (c.phase.ensures s d.now is) (c.used.ensures s d.now is)
     (c.liars.ensures s d.now is) (c.halted.ensures s d.now is)

@@ -6,7 +6,7 @@ use Rattle.group_defs.specs.Process.{Process, Pool, keyed, places_in}
 use Rattle.group_defs.specs.Accounts.{StandsByPlace}
 use Rattle.image_defs.specs.Images.{process_of}
 use Rattle.image_defs.specs.Kept.{AreHeard, as_before}
-use Rattle.restored_left.specs.Facts.{IsDecidedSo, IsHaltedSo, SignedOnce, StandsIn, as_setting, heard_in}
+use Rattle.restored_left.specs.Facts.{IsDecidedSo, IsHaltedSo, SignedOnce, IsOwnSoFar, as_setting, heard_in}
 use Rattle.own_place.specs.Owns.{HasDelivered}
 use Rattle.pool_laws.proofs.Members.{Mem, All-mem, mem-All, mem-append, mem-behind, mem-map}
 use Rattle.snapshot_rp.specs.Views.{delivered, image as image_as}
@@ -88,7 +88,7 @@ returns-in-Some-clause-exact g c s shares behind =
     (c.in_ok-pool.ensures.exact s p shares has there)).0 refl in
     let pool_is : p.pool ≡ c.in-Some.pool.pool = there ∙ sym (subst (λ o. IfSome o (λ pool. pool.pool ≡ heard_in c.args.view.now image.heard))
     c.in-Some.is c.in_ok-pool.ensures.heard) in
-    let stands : StandsIn s p c.place_in-own.result = c.place_in-own.ensures.stands s p shares.keys (sym behind) refl now
+    let stands : IsOwnSoFar s p c.place_in-own.result = c.place_in-own.ensures.stands s p shares.keys (sym behind) refl now
     (earlier-so image.me s.genesis image.left image.delivered (λ es. map delivered es.items) c.args.earlier.now ds c.requires.parts
     c.requires.spelled.lists ∙ sym c.own_delivered-before.ensures) in
     ok-same c.phased.result
@@ -113,7 +113,7 @@ returns-in-Some-clause-is g c s batch_limit shares behind so own =
     let there : p.pool ≡ heard_in c.args.view.now image.heard = λ j. heard_in (sym behind j) image.heard in
     let pool_is : p.pool ≡ c.in-Some.pool.pool = there ∙ sym (subst (λ o. IfSome o (λ pool. pool.pool ≡ heard_in c.args.view.now image.heard))
     c.in-Some.is c.in_ok-pool.ensures.heard) in
-    let stands : StandsIn s p c.place_in-own.result = c.place_in-own.ensures.stands s p shares.keys (sym behind) refl now
+    let stands : IsOwnSoFar s p c.place_in-own.result = c.place_in-own.ensures.stands s p shares.keys (sym behind) refl now
     (earlier-so image.me s.genesis image.left image.delivered (λ es. map delivered es.items) c.args.earlier.now ds c.requires.parts
     c.requires.spelled.lists ∙ sym c.own_delivered-before.ensures) in
     let once : SignedOnce p = record { own = own; ranged = each-all IsClaim 0 image.signed c.requires.spelled.signed.1; once = so.said.once } in

@@ -1,5 +1,5 @@
 use Rattle.std.proofs.Common.{◌≡◌, ◌≢◌, inl, inr, Err, List, ℕ, refl, sym, ap, subst, ◌∙◌, arith}
-use Rattle.rp_base.specs.Streams.{Says}
+use Rattle.rp_base.specs.Streams.{WritesLine}
 use Rattle.kit_reading.specs.declared.fronts.FrontFault.{FrontFault}
 use Rattle.store_asking.specs.Stops.{line_of}
 use Rattle.store_asking.proofs.Statuses.{by_status, is_read, is_seven, never, no_answer, no_fault, refused_so}

@@ -3,7 +3,7 @@ use Rattle.story_cli.specs.declared.commands.Command.{Command}
 use Rattle.std.specs.Prelude.{IsSomeAnd}
 use Rattle.story_cli.specs.Top.{Has, MadeInPart}
 use Rattle.story_cli.proofs.Stopped.{at_write, at_story, at_schedule, has_schedule, has_story, no_memory, no_story, no_schedule, at_read, said, same_command, stopped_so, touched, unread_fault}
-use Rattle.rp_base.specs.Streams.{Says}
+use Rattle.rp_base.specs.Streams.{WritesLine}
 use Rattle.story_cli.proofs.top.story.Goals as goal
 
 pub returns-in-Err-clause-part : goal.returns-in-Err-clause-part
@@ -45,7 +45,7 @@ returns-in-Err-clause-completes g c = λ command asks has calm calm_sink.
 pub returns-in-Err-clause-read_line : goal.returns-in-Err-clause-read_line
 returns-in-Err-clause-read_line g c = λ three.
     let reported = said _ _ 3 (omega Rattle.std.proofs.Common.arith) three c.tell.ensures.reported in
-    subst (λ (line : List ℕ). Says line (g.E.Sink.written c.args.errors.now) (g.E.Sink.written c.tell.new.errors)
+    subst (λ (line : List ℕ). WritesLine line (g.E.Sink.written c.args.errors.now) (g.E.Sink.written c.tell.new.errors)
     (g.E.Sink.faults c.args.errors.now) (g.E.Sink.faults c.tell.new.errors)) (at_read c.in-Err.stop reported.0) reported.1
 
 pub returns-in-Err-clause-whole : goal.returns-in-Err-clause-whole

@@ -1,5 +1,5 @@
 use Rattle.std.proofs.Common.{◌≢◌, ◌∷◌, [], Err, inl, inr, sym, ap, subst, ◌∙◌, arith}
-use Rattle.rp_base.specs.Streams.{Says}
+use Rattle.rp_base.specs.Streams.{WritesLine}
 use Rattle.witness_words.specs.declared.stops.Stop.{Stop}
 use Rattle.witness_words.specs.Stops.{line_of}
 use Rattle.witness_words.proofs.Statuses.{at_read, at_write, never_stops, never_zero, only_these, read_is_three, some_found, stops, stops_so}
@@ -52,7 +52,7 @@ returns-in-Err-clause-read g c = λ three.
 pub returns-in-Err-clause-read_line : goal.returns-in-Err-clause-read_line
 returns-in-Err-clause-read_line g c = λ three.
     let other : c.tell.result ≢ 1 = λ e. omega (arith, three, e) in
-    subst (λ (s : Stop). Says (line_of s) (g.K.Sink.written c.args.output.now) (g.K.Sink.written c.tell.new.output)
+    subst (λ (s : Stop). WritesLine (line_of s) (g.K.Sink.written c.args.output.now) (g.K.Sink.written c.tell.new.output)
     (g.K.Sink.faults c.args.output.now) (g.K.Sink.faults c.tell.new.output))
     (at_read c.in-Err.stop (sym (c.tell.ensures.status other) ∙ three))
     (c.tell.ensures.line other)

@@ -3,7 +3,7 @@ use Rattle.message_defs.specs.Spelling.{IsViewNumber}
 use Rattle.group_defs.specs.Views.{View, IsView}
 use Rattle.group_defs.specs.Process.{start}
 use Rattle.own_place.specs.Words.{empty_pool}
-use Rattle.own_place.specs.Owns.{Tells}
+use Rattle.own_place.specs.Owns.{IsOwnOf}
 use Rattle.member_state.proofs.Starting.{starts}
 use Rattle.member_state.proofs.state.ProcessState.new.Goals as goal
 
@@ -17,7 +17,7 @@ returns-clause-starts c s with' =
     (subst IsView (sym g) c.number-number.ensures.within.1) (ap (λ (v : View). v.number) g ∙ c.requires.number) (record {
       limit = refl;
       pool = c.in_ok-new.ensures.pool ∙ ap empty_pool first;
-      place = subst (λ (v : View). Tells s (start s c.args.me c.args.batch_limit) (empty_pool v) c.first_place.result) (sym g)
+      place = subst (λ (v : View). IsOwnOf s (start s c.args.me c.args.batch_limit) (empty_pool v) c.first_place.result) (sym g)
           (c.first_place.ensures s c.args.batch_limit with');
       phase = c.begin.ensures.begins (start s c.args.me c.args.batch_limit) g refl refl refl refl;
       asked = λ u. sym (c.new-2.ensures u);

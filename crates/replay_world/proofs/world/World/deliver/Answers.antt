@@ -11,7 +11,7 @@ use Rattle.replay_defs.specs.Worlds.{setting_of}
 use Rattle.trace_defs.specs.Happenings as defs
 use Rattle.trace_defs.specs.Happenings.{Happening}
 use Rattle.happenings.specs.declared.reported.Handed.TheVariants as kinds
-use Rattle.happenings.specs.Reported.{Tells}
+use Rattle.happenings.specs.Reported.{WasReported}
 use Rattle.replay_world.proofs.Places.{position_low}
 use Rattle.replay_world.proofs.Saying.{frames_counted, gets_absent, gets_sent, takes_absent, tells_nothing}
 use Rattle.replay_world.proofs.Giving.{placed, looked_up, delivered, delivers_frame, delivers_absent, delivers_nobody, given_becomes, given_exceeds, given_tells, no_player}
@@ -82,7 +82,7 @@ returns-clause-exceeds c =
 
 pub returns-in_default-clause-tells : goal.returns-in_default-clause-tells
 returns-in_default-clause-tells c = λ h v shows.
-    let P : List Happening → Type 0 = λ xs. Tells c.args.reported.now xs c.args.reported.now in
+    let P : List Happening → Type 0 = λ xs. WasReported c.args.reported.now xs c.args.reported.now in
     subst P (sym (gets_absent h c.args.self.now v c.args.to c.args.frame c.deref.result.now shows c.deref.ensures.value
     c.in_default.ensures.lookup.3))
     (tells_nothing c.args.reported.now)
@@ -92,7 +92,7 @@ returns-in_default-place_of-clause-tells c = λ h v shows.
     let f = c.in-Some.sent.now in
     let get = looked_up c.deref.result.now c.args.self.now.traffic.frames.items c.args.frame f c.deref.ensures.value
     c.in-Some.ensures.lookup.0 c.in-Some.ensures.lookup.1 in
-    let P : List Happening → Type 0 = λ xs. Tells c.args.reported.now xs c.args.reported.now in
+    let P : List Happening → Type 0 = λ xs. WasReported c.args.reported.now xs c.args.reported.now in
     subst P (sym (gets_sent h c.args.self.now v c.args.to c.args.frame f shows get
     ∙ takes_absent (setting_of h) v c.args.to (defs.Frame c.args.frame f.sender) (group.Hand f.sender (frame_said f.bytes))
     (no_player h c.args.self.now v c.args.to c.place_of.result c.deref-2.result.now shows c.in_default-place_of.is c.place_of.ensures
@@ -113,7 +113,7 @@ returns-clause-tells c =
     let marked : length c.mark.new.frames.items ≡ length c.args.self.now.traffic.frames.items =
     ap length (c.mark.ensures f get) ∙ length-set c.args.self.now.traffic.frames.items c.args.frame (record f { handed = true }) in
     on_ok_weaker c.note.result (λ tells. λ h v shows.
-    let P : List Happening → Type 0 = λ xs. Tells c.args.reported.now xs c.note.new.reported in
+    let P : List Happening → Type 0 = λ xs. WasReported c.args.reported.now xs c.note.new.reported in
     subst P (sym (gets_sent h c.args.self.now v c.args.to c.args.frame f shows get))
     (given_tells h stepped v c.args.to (group.Hand f.sender (frame_said f.bytes)) c.in_ok-outcome.outcome
     (kinds.Frame c.args.frame f.sender) _ c.args.reported.now c.note.new.reported

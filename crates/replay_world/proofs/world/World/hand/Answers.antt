@@ -5,7 +5,7 @@ use Rattle.replay_world.specs.Steps.{NotesTooMuch}
 use Rattle.replay_cast.specs.declared.player.Player.{Player}
 use Rattle.replay_defs.specs.Worlds.{setting_of}
 use Rattle.trace_defs.specs.Happenings.{Happening}
-use Rattle.happenings.specs.Reported.{handed, Tells}
+use Rattle.happenings.specs.Reported.{handed, WasReported}
 use Rattle.replay_world.proofs.Places.{position_low}
 use Rattle.replay_world.proofs.Saying.{frames_counted, takes_absent, tells_nothing}
 use Rattle.replay_world.proofs.Giving.{placed, nobody, no_player, given, given_becomes, given_exceeds, given_tells, raws_keep}
@@ -47,7 +47,7 @@ returns-clause-exceeds c =
 
 pub returns-in_default-clause-tells : goal.returns-in_default-clause-tells
 returns-in_default-clause-tells c = λ h v shows.
-    let P : List Happening → Type 0 = λ xs. Tells c.args.reported.now xs c.args.reported.now in
+    let P : List Happening → Type 0 = λ xs. WasReported c.args.reported.now xs c.args.reported.now in
     subst P (sym (takes_absent (setting_of h) v c.args.at (handed c.args.handed) (event c.args.event.now)
     (no_player h c.args.self.now v c.args.at c.place_of.result c.deref.result.now shows c.in_default.is c.place_of.ensures
     c.deref.ensures.value)))

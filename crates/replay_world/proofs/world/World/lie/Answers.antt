@@ -17,7 +17,7 @@ use Rattle.replay_world.proofs.Giving.{on_ok_both}
 use Rattle.replay_world.proofs.Happenings.{too_much_stops}
 use Rattle.trace_defs.specs.Happenings as defs
 use Rattle.trace_defs.specs.Happenings.{Happening}
-use Rattle.happenings.specs.Reported.{Tells}
+use Rattle.happenings.specs.Reported.{WasReported}
 use Rattle.replay_world.proofs.Saying.{frames_counted}
 use Rattle.replay_world.proofs.Places.{position_low}
 use Rattle.replay_world.proofs.Telling.{lie_by_nobody, lie_spent, lie_reported, lie_shows, no_liar, tells_of_lie, tells_of_silence}
@@ -114,7 +114,7 @@ returns-in_default-2-clause-tells c = λ h v s event.
     ≡ Some c.in-Some.i = sym (ap find c.deref.ensures.value) ∙ (sym c.place_of.ensures ∙ c.in-Some.is) in
     let P : Option (List ℕ) → Type 0 = λ lie. LiesAt c.args.self.now.group
     (stmt c.in-Ok.said) c.args.self.now.liars.items c.lie_at.new.liars.items c.in-Some.i lie in
-    let Q : List Happening → Type 0 = λ xs. Tells c.args.reported.now xs c.add.new.self in
+    let Q : List Happening → Type 0 = λ xs. WasReported c.args.reported.now xs c.add.new.self in
     subst Q (sym (tells_of_silence h c.args.self.now (record c.args.self.now { liars = c.lie_at.new.liars }) v c.args.signer c.in-Some.i
     (mask_of c.args.to) c.args.statement.now (stmt c.in-Ok.said)
     s place (subst P c.in_default-2.is c.in_ok-frame.ensures) c.in-Ok.ensures.exact)) c.in_ok-add.ensures
@@ -132,7 +132,7 @@ returns-clause-tells c =
     (stmt c.in-Ok.said) c.args.self.now.liars.items c.lie_at.new.liars.items c.in-Some.i lie in
     let lie = subst P c.in-Some-2.is c.in_ok-frame.ensures in
     on_ok_weaker c.send.result (λ sent. λ h v s event.
-    let Q : List Happening → Type 0 = λ xs. Tells c.args.reported.now xs c.tell_lie.new.reported in
+    let Q : List Happening → Type 0 = λ xs. WasReported c.args.reported.now xs c.tell_lie.new.reported in
     let reported = tells_of_lie h c.args.self.now (record c.args.self.now { liars = c.lie_at.new.liars }) v c.args.signer c.in-Some.i
     (mask_of c.args.to) c.args.statement.now c.in-Some-2.frame (stmt c.in-Ok.said) s place lie c.in-Ok.ensures.exact in
     let number = ap (λ (n : ℕ). defs.Lies c.args.signer c.args.statement.now n (members (mask_of c.args.to)) ∷ [])

@@ -4,7 +4,7 @@ use Rattle.group_defs.specs.Process as defs
 use Rattle.group_defs.specs.Process.{Setting, Process}
 use Rattle.group_defs.specs.Certified.{number_of_members}
 use Rattle.rule_laws.specs.Heard.{IsPool}
-use Rattle.rank_rules.specs.Perceived.{Tells, TellsPerceived}
+use Rattle.rank_rules.specs.Perceived.{IsOwnOf, IsPerceivedOf}
 use Rattle.due_statements.specs.declared.standing.Standing.{Standing}
 use Rattle.due_statements.specs.declared.kind.Kind.{Kind}
 use Rattle.due_statements.specs.declared.kind.Kind.TheVariants as kinds
@@ -30,11 +30,11 @@ pub record IsSeated (of : Standing) : Type 0 where
   pub some : 1 ≤ of.batch_limit
   pub few : of.batch_limit ≤ 16
 
--- the process is as this says
-pub record Stands (s : Setting) (p : Process) (of : Standing) : Type 0 where
+-- what the rules look at is of this process
+pub record IsAskedOf (s : Setting) (p : Process) (of : Standing) : Type 0 where
   pub pool : IsPool of.pool.now.pool
-  pub place : Tells s p of.pool.now.pool of.own.now
-  pub asked : TellsPerceived of.perceived.now p
+  pub place : IsOwnOf s p of.pool.now.pool of.own.now
+  pub asked : IsPerceivedOf of.perceived.now p
   pub accepted : p.accepted ≡ of.accepted.now
   pub few : length of.accepted.now ≤ 4294967295
   pub limit : p.batch_limit ≡ of.batch_limit

@@ -1,23 +1,21 @@
 -- Which process of the definitions is as a report says.
-use Rattle.std.specs.Prelude.{◌≡◌, ℕ, List, [], ◌∷◌, length, codes, All, Option, Some, None, option_and_then, if◌then◌else◌}
+use Rattle.std.specs.Prelude.{◌≡◌, ℕ, List, [], ◌∷◌, length, codes, Option, Some, None, option_and_then, if◌then◌else◌}
 use Rattle.std.specs.Fmt.{decimal}
 use Rattle.text_defs.specs.Words.{line_text}
-use Rattle.group_defs.specs.Process.{Process, places_in}
+use Rattle.group_defs.specs.Process.{Process, liars_of, places_in}
 use Rattle.group_defs.specs.Settle.{phase_of}
 use Rattle.group_defs.specs.Accounts.{account_of}
-use Rattle.replay_defs.specs.Reports.{liars}
 use Rattle.view_phases.specs.Phases.{word}
 use Rattle.accounts.specs.Views.{account}
 use Rattle.report_lines.specs.declared.standing.Standing.{Standing}
 
 -- The process is so: its account, its phase, how many statements it signed, the signers with a kept conflict, and where it has
--- halted, how many places it delivered and the cut. And all that it signed is its own, as with every process that came to be by events.
-pub record StandsAs (t : Standing) (p : Process) : Type 0 where
+-- halted, how many places it delivered and the cut.
+pub record IsAsReported (t : Standing) (p : Process) : Type 0 where
   pub account : account_of p ≡ account t.account.now
   pub phase : phase_of p ≡ word t.phase
   pub signed : length p.signed ≡ t.signed
-  pub own : All (λ c. c.signer ≡ p.me) p.signed
-  pub liars : liars p ≡ t.liars
+  pub liars : liars_of p ≡ t.liars
   pub halted : option_and_then (λ d. if p.halted then Some (places_in p.delivered, d.1.cut) else None) p.decision ≡ t.halted
 
 -- the line of a process that has halted, with both numbers; none where it has not

@@ -16,7 +16,7 @@ HasHalted p = (p.halted ≡ true) ↔ ((d : ℕ × Value) × (p.decision ≡ Som
 
 -- The process has this number and this pool, has signed no End of the view or one of this length, has delivered `many` places, and has
 -- decided this; and it has halted as it should.
-pub record Stands (p : Process) (h : Pool) (me : ℕ) (ended : Option ℕ) (many : ℕ) (d : Option (ℕ × Value)) : Type 0 where
+pub record IsInView (p : Process) (h : Pool) (me : ℕ) (ended : Option ℕ) (many : ℕ) (d : Option (ℕ × Value)) : Type 0 where
   pub pool : p.pool ≡ h
   pub number : p.me ≡ me
   pub end : HasEnd p ended

@@ -1,5 +1,0 @@
-use Rattle.journal_defs.proofs.Running as laws
-use Rattle.journal_defs.proofs.one_image_stands.Goals as goal
-
-pub returns : goal.returns
-returns c = laws.one_image_stands
