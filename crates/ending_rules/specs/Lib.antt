@@ -1,3 +1,4 @@
 pub mod Due
+pub mod Events
 pub mod Perceiving
 pub mod Questions

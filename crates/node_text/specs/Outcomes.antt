@@ -1,2 +1,2 @@
 -- In the words of the crate below, passed on.
-pub use Rattle.member_state.specs.Events.{IsOutcome, frame_to, frames_to}
+pub use Rattle.report_lines.specs.Below.{IsOutcome, frame_to, frames_to}

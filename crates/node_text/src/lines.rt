@@ -1,6 +1,6 @@
 //! The lines of a node, but for what its turns report.
 ghost use Rattle.std.specs.Prelude.{◌≡◌, ◌++◌, ◌∷◌, [], ℕ, List, length, map, sum, IfOk, OnOk, OnErr};
-ghost use Rattle.member_state.specs.Parts.{fault as fault_of};
+ghost use Rattle.report_lines.specs.Below.{fault as fault_of};
 ghost use Rattle.group_defs.specs.Process.{Process};
 ghost use Rattle.group_defs.specs.Accounts.{account_of};
 ghost use Rattle.group_defs.specs.Views.{View as PlainView};

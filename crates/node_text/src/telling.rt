@@ -2,7 +2,7 @@
 ghost use Rattle.std.specs.Prelude.{◌≡◌, ◌++◌, OnOk, OnErr};
 ghost use Rattle.group_defs.specs.Events.{Delivers, Installs};
 ghost use Rattle.view_table.specs.Views.{as_view};
-ghost use Rattle.member_state.specs.Events.{note as note_of};
+ghost use Rattle.report_lines.specs.Below.{note as note_of};
 ghost use Rattle.node_defs.specs.Lines as plain;
 
 use crate::words::{Word, process_word, push_line};
