@@ -1,0 +1,4 @@
+pub mod Below
+pub mod Begins
+pub mod Holding
+pub mod Reading
