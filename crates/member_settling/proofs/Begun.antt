@@ -30,11 +30,9 @@ use Rattle.claim_index.specs.Kept.{empty_pool}
 use Rattle.own_place.specs.Owns.{IsOwnOf}
 use Rattle.member_state.specs.Parts.{has_update}
 use Rattle.member_state.specs.Parts.{all_signed}
-use Rattle.member_state.specs.Below.{IsIn}
+use Rattle.member_state.specs.Below.{IsIn, Begins}
 use Rattle.accounts.specs.Views.{account}
-use Rattle.member_laws.specs.Telling.{Begins}
-use Rattle.member_laws.proofs.Lawful.{installing_is_lawful}
-use Rattle.member_laws.proofs.Telling.{installing_tells}
+use Rattle.member_state.proofs.Below.{installing_is_lawful, installing_tells}
 use Rattle.member_state.specs.declared.state.ProcessState.{ProcessState}
 use Rattle.member_state.specs.States.{IsStateOf, claims_of}
 use Rattle.member_settling.specs.Steps.{in_phase, IsLeaving}

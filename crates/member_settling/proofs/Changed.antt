@@ -9,9 +9,8 @@ use Rattle.pool_laws.proofs.Tests.{option_or-is}
 use Rattle.own_place.specs.declared.own.Own.{Own}
 use Rattle.own_place.specs.Owns.{IsOwnOf}
 use Rattle.member_state.specs.Parts.{Archived, Keeps}
-use Rattle.member_state.specs.Below.{Phase, IsIn, decided, decision_of}
+use Rattle.member_state.specs.Below.{Phase, IsIn, decided, decision_of, IsLawful}
 use Rattle.member_state.specs.Phases as phases
-use Rattle.member_laws.specs.Lawful.{IsLawful}
 use Rattle.member_state.specs.declared.state.ProcessState.{ProcessState}
 use Rattle.member_state.specs.Bounds.{IsBounded}
 use Rattle.member_state.specs.States.{IsStateOf, IsDecision}

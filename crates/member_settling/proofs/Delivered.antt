@@ -10,13 +10,11 @@ use Rattle.group_defs.specs.Settle.{delivery, limit}
 use Rattle.group_defs.specs.Events.{Delivers}
 use Rattle.group_defs.specs.Accounts.{Account, account_of}
 use Rattle.own_place.specs.declared.own.Own.{Own}
-use Rattle.member_state.specs.Below.{Phase, IsIn}
+use Rattle.member_state.specs.Below.{Phase, IsIn, IsLawful, OnePlaceMore}
 use Rattle.member_state.specs.Phases as phases
 use Rattle.accounts.specs.declared.account.Account as code
 use Rattle.accounts.specs.Views.{account}
-use Rattle.member_laws.specs.Lawful.{IsLawful}
-use Rattle.member_laws.specs.Telling.{OnePlaceMore}
-use Rattle.member_laws.proofs.Telling.{delivering_tells}
+use Rattle.member_state.proofs.Below.{delivering_tells}
 use Rattle.member_state.specs.declared.state.ProcessState.{ProcessState}
 use Rattle.member_events.specs.declared.events.Note as notes
 use Rattle.member_state.specs.Events.{note}

@@ -19,7 +19,7 @@ use Rattle.claim_lists.specs.Pairs.{Pairing}
 use Rattle.member_state.specs.Below.{IsIn}
 use Rattle.member_state.specs.Parts.{Keeps, has_update}
 use Rattle.accounts.specs.Views.{account}
-use Rattle.member_laws.proofs.Lawful.{signing_is_lawful}
+use Rattle.member_state.proofs.Below.{signing_is_lawful}
 use Rattle.member_state.specs.States.{IsStateOf, IsSigned, claims_of, signed_here}
 use Rattle.member_state.specs.declared.state.ProcessState.{ProcessState}
 

@@ -1,3 +1,4 @@
+pub mod Below
 mod Liars
 mod Seeking
 pub mod Ranges

@@ -8,3 +8,4 @@ pub use Rattle.view_phases.specs.declared.phases.Decision.{Decision}
 pub use Rattle.view_phases.specs.declared.phases.HaltedView.{HaltedView}
 pub use Rattle.ending_rules.specs.Questions.{content_of}
 pub use Rattle.reliable_mcast.specs.Packed.{Packing}
+pub use Rattle.own_moves.specs.Below.{IsLawful, Begins, OnePlaceMore}

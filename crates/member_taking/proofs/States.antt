@@ -22,8 +22,8 @@ use Rattle.member_state.specs.Perceiving.{asking, IsPerceivedOf}
 use Rattle.member_state.specs.Parts.{has_update}
 use Rattle.member_state.specs.Perceiving.{Perceived}
 use Rattle.member_state.specs.Phases.{Phase, Observing, OpenView, ClosingView, DecidedView, HaltedView, IsIn}
-use Rattle.member_laws.specs.Lawful.{IsLawful}
-use Rattle.member_laws.proofs.Lawful.{hearing_is_lawful}
+use Rattle.member_state.specs.Below.{IsLawful}
+use Rattle.member_state.proofs.Below.{hearing_is_lawful}
 use Rattle.accounts.specs.Views.{account as account_as}
 use Rattle.accounts.specs.declared.account.Account as code
 use Rattle.member_state.specs.declared.state.ProcessState.{ProcessState}

@@ -3,7 +3,7 @@ use Rattle.std.proofs.Math.Logic.{∥∥₁_elim}
 use Rattle.std.proofs.Props.{props}
 use Rattle.group_defs.specs.Views.{View}
 use Rattle.own_place.specs.declared.own.Own.{Own}
-use Rattle.member_laws.specs.Telling.{OnePlaceMore}
+use Rattle.member_state.specs.Below.{OnePlaceMore}
 use Rattle.member_state.proofs.Entries.{counts-each}
 use Rattle.member_settling.proofs.Delivered.{place-delivered}
 use Rattle.member_settling.proofs.Marked.{delivers-stays}

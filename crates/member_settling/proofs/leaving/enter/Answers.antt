@@ -8,8 +8,7 @@ use Rattle.rp_base.specs.Views.{value}
 use Rattle.own_place.specs.declared.own.Own.{Own}
 use Rattle.member_state.specs.Parts.{all_signed}
 use Rattle.accounts.specs.Views.{account}
-use Rattle.member_laws.specs.Telling.{Begins}
-use Rattle.member_state.specs.Below.{decision_of}
+use Rattle.member_state.specs.Below.{Begins, decision_of}
 use Rattle.member_state.specs.declared.left.LeftView.{LeftView}
 use Rattle.member_state.specs.declared.left.SaidBefore.{SaidBefore}
 use Rattle.member_state.specs.declared.state.ProcessState.{ProcessState}

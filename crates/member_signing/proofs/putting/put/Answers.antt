@@ -11,7 +11,7 @@ use Rattle.stmt_codec.specs.Views.{claim}
 use Rattle.own_place.specs.Owns.{IsOwnOf}
 use Rattle.own_place.specs.declared.own.Own.{Own}
 use Rattle.member_state.specs.Below.{IsIn, Phase}
-use Rattle.member_laws.proofs.Ranges.{due_is_in_range}
+use Rattle.member_state.proofs.Below.{due_is_in_range}
 use Rattle.member_signing.proofs.Open.{none-decided}
 use Rattle.member_signing.proofs.Seated.{fresh, orders-length}
 use Rattle.member_signing.proofs.States.{signed-state}

@@ -7,7 +7,7 @@ use Rattle.group_defs.specs.Signing.{own_claim}
 use Rattle.stmt_codec.specs.Views.{stmt}
 use Rattle.rule_laws.proofs.LeastIsDue.{least_due-may}
 use Rattle.due_statements.specs.AskedOf.{kind_of}
-use Rattle.member_laws.proofs.Ranges.{due_is_in_range}
+use Rattle.member_state.proofs.Below.{due_is_in_range}
 use Rattle.member_state.proofs.Ranges.{statement-once}
 use Rattle.member_signing.proofs.Owned.{own-is, owned-is}
 use Rattle.member_signing.proofs.signing.next.Goals as goal
