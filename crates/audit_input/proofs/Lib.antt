@@ -1,3 +1,5 @@
 pub mod Lines
 pub mod Steps
 pub mod Runs
+pub mod Reasons
+pub mod Statuses

@@ -1,2 +1,4 @@
 pub mod Places
 pub mod Views
+pub mod Stops
+pub mod Unread

@@ -19,7 +19,7 @@ const MOST_LINE: usize = 18;
 /// The most bytes of a journal.
 const MOST_JOURNAL_BYTES: u32 = 1_073_741_824;
 
-// The length that the words after the first one are.
+// The length that the words after the first one spell.
 fn length_of_rest(mut words: Words<'_>) -> Option<u32>
     ensures { result ≡ length_behind (parts_left words.entry) }
 {

@@ -6,11 +6,11 @@ ghost use Rattle.kit_reading.specs.Fronts.{front_fault};
 ghost use Rattle.audit_input.specs.Places.{behind_journal, first_place, journals_from, place};
 
 use crate::journal_lines::next_length;
+use audit_sources::Payload;
 use kit_reading::{FrontFault, KitFault};
 use line_input::Lines;
 use rp_base::{NoMemory, Source};
 use std::alloc::Global;
-use stmt_codec::Payload;
 
 /// How many journals an audit takes.
 const MOST_JOURNALS: usize = 64;

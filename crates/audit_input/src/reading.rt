@@ -8,11 +8,11 @@ ghost use Rattle.audit_defs.specs.Inputs.{input_of};
 ghost use Rattle.audit_input.specs.Views.{input as input_seen};
 
 use crate::journals::read_journals;
+use audit_sources::Payload;
 use kit_reading::{FrontFault, Kit, KitFault, read_front};
 use line_input::Lines;
 use rp_base::Source;
 use std::alloc::Global;
-use stmt_codec::Payload;
 
 /// What an audit is of.
 #[derive(Drop)]

@@ -1,5 +1,6 @@
 -- What was found, as it is written.
-use Rattle.std.proofs.Common.{◌≡◌, ℕ, List, [], ◌++◌, Option, Ok, ap, subst, ◌∙◌}
+use Rattle.std.proofs.Common.{◌≡◌, ℕ, List, [], ◌++◌, Option, Result, Ok, ap, subst, ◌∙◌, Vec, Global}
+use Rattle.std.specs.Prelude.{IfOk, IsOkAnd}
 use Rattle.std.specs.Io.KnownBytes.{Appends}
 use Rattle.rp_base.specs.Streams.{AppendsPrefix}
 use Rattle.line_input.specs.Places.{Ends}
@@ -9,7 +10,9 @@ use Rattle.audit_defs.specs.Findings.{Findings, findings_line}
 use Rattle.audit_defs.specs.Laws.{FirstGiveLast}
 use Rattle.audit_core.specs.Found as core
 use Rattle.audit_words.specs.Running.{Audits, Found, FoundInPart, line_of_findings}
-use Rattle.audit_words.proofs.Reasons.{all_audited}
+use Rattle.audit_input.proofs.Reasons.{all_audited}
+use Rattle.audit_input.specs.declared.stops.Stop.{Stop}
+use Rattle.audit_input.proofs.Statuses.{made_and_written}
 
 -- the line of what was found
 abbrev pub Line : List ℕ → Option (List ℕ) → Option (List ℕ) → List ℕ → Type 0
@@ -29,9 +32,14 @@ line_is listed before now input f empty line read found headline nothing written
       written ∙ ap (λ (t : List ℕ). t ++ findings_line f.reported) nothing ∙ ap findings_line found.2.reported,
     )
 
-module _ (listed : List ℕ) (before now old new : Option (List ℕ)) (line : List ℕ) (is : Line listed before now line) where
-  pub found : Appends old new line → Found listed before now old new
-  found wrote = record { audits = is.0; wrote = subst (Appends old new) is.1 wrote }
+module _ (listed : List ℕ) (before now old new : Option (List ℕ)) (made : Result (Vec ℕ Global) Stop)
+    (is : IfOk made (λ text. Line listed before now text.items)) where
+  pub found : IsOkAnd made (λ text. Appends old new text.items) → Found listed before now old new
+  found wrote =
+      let m = made_and_written (λ (text : Vec ℕ Global). Line listed before now text.items) (λ text. Appends old new text.items) made is wrote in
+      record { audits = m.1.0; wrote = subst (Appends old new) m.1.1 m.2 }
 
-  pub found_in_part : AppendsPrefix old new line → FoundInPart listed before now old new
-  found_in_part wrote = record { audits = is.0; wrote = subst (AppendsPrefix old new) is.1 wrote }
+  pub found_in_part : IsOkAnd made (λ text. AppendsPrefix old new text.items) → FoundInPart listed before now old new
+  found_in_part wrote =
+      let m = made_and_written (λ (text : Vec ℕ Global). Line listed before now text.items) (λ text. AppendsPrefix old new text.items) made is wrote in
+      record { audits = m.1.0; wrote = subst (AppendsPrefix old new) m.1.1 m.2 }

@@ -1,24 +1,23 @@
-ghost use Rattle.std.specs.Prelude.{◌≡◌, ◌≢◌, ◌⊎◌, ℕ, IfOk, IsErrOf, codes};
-ghost use Rattle.std.specs.Io.KnownBytes.{Appends, Keeps};
+ghost use Rattle.std.specs.Prelude.{◌≡◌, ◌⊎◌, ℕ, IfOk, IsErrOf, codes};
+ghost use Rattle.std.specs.Io.KnownBytes.{Keeps};
 ghost use Rattle.rp_base.specs.Causes.{Rose};
-ghost use Rattle.rp_base.specs.Streams.{AppendsPrefix, WritesLine};
+ghost use Rattle.rp_base.specs.Streams.{WritesLine};
 ghost use Rattle.audit_defs.specs.Findings as findings;
 ghost use Rattle.audit_defs.specs.Findings.{stop_line};
-ghost use Rattle.audit_words.specs.Stops.{line_of, status_of, why_of};
-ghost use Rattle.audit_words.specs.Running.{Audits, Found, FoundInPart, HasFindings, HasNoFindings, Refuses, Unfound, line_of_findings};
+ghost use Rattle.audit_input.specs.Stops.{fault_line, fault_status};
+ghost use Rattle.audit_words.specs.Running.{Audits, Found, FoundInPart, HasFindings, HasNoFindings, Unfound, Unread, line_of_findings};
 
-use crate::stops::{Fault, Stop};
 use audit_core::audit;
-use audit_input::read_input;
-use rp_base::{PidSet, Sink, Source, write_all};
+use audit_input::{Fault, Stop, finish, read_input};
+use rp_base::{PidSet, Sink, Source};
 use std::alloc::Global;
 
 // Reads the input to its end, and makes the line of what an audit of it finds, with these processes taken as correct. Nothing is written.
 fn audit_all<S: Source>(alloc: Global, listed: PidSet, input: &mut S) -> Result<Vec<u8>, Stop>
     ensures found { IfOk result (λ line. (a : Audits listed (S.left input.old) (S.left input.new)) × (line.items ≡ line_of_findings a)) }
     ensures refused { (fault : Fault) → IsErrOf result (Stop.Input fault)
-        → (r : Refuses listed (S.left input.old) (S.left input.new))
-        × (stop_line r.why ≡ stop_line (why_of fault)) × (findings.status_of r.why ≡ findings.status_of (why_of fault)) }
+        → (r : Unread listed (S.left input.old) (S.left input.new))
+        × (stop_line r.why ≡ fault_line fault) × (findings.status_of r.why ≡ fault_status fault) }
     ensures read { IsErrOf result Stop.Read → Rose (S.faults input.old) (S.faults input.new) }
     ensures steady { IsErrOf result Stop.Read ⊎ (S.faults input.new ≡ S.faults input.old) }
     ensures no_write { ¬ IsErrOf result Stop.Write }
@@ -28,61 +27,6 @@ fn audit_all<S: Source>(alloc: Global, listed: PidSet, input: &mut S) -> Result<
     let mut line = Vec::new(alloc);
     found.findings_into(alloc, &mut line)?;
     Ok(line)
-}
-
-// Writes the line of the findings, and answers the status: 0, or 4 where a write failed.
-fn give<K: Sink>(output: &mut K, line: &[u8]) -> u8
-    ensures done { result ≡ 0 → Appends (K.written output.old) (K.written output.new) line.now }
-    ensures steady { result ≡ 0 → K.faults output.new ≡ K.faults output.old }
-    ensures write { result ≡ 4 → Rose (K.faults output.old) (K.faults output.new) }
-    ensures part { result ≡ 4 → AppendsPrefix (K.written output.old) (K.written output.new) line.now }
-    ensures only { (result ≡ 0) ⊎ (result ≡ 4) }
-{
-    match write_all(output, line) {
-        Ok(()) => 0,
-        Err(_) => Stop::Write.status(),
-    }
-}
-
-// Writes the line of a stop, and answers its status. A fault meanwhile leaves the status as it is.
-fn say<K: Sink>(output: &mut K, stop: Stop, line: &[u8]) -> u8
-    requires { line.now ≡ line_of stop }
-    ensures status { result ≡ status_of stop }
-    ensures line { WritesLine (line_of stop)
-        (K.written output.old) (K.written output.new) (K.faults output.old) (K.faults output.new) }
-{
-    let _ = write_all(output, line);
-    stop.status()
-}
-
-// The same of a fault of the input: 1 where there is no memory for its line.
-fn tell_fault<K: Sink>(alloc: Global, output: &mut K, fault: Fault) -> u8
-    ensures silent { result ≡ 1 → Keeps (K.written output.old) (K.written output.new) }
-    ensures status { result ≢ 1 → result ≡ status_of (Stop.Input fault) }
-    ensures line { result ≢ 1 → WritesLine (line_of (Stop.Input fault))
-        (K.written output.old) (K.written output.new) (K.faults output.old) (K.faults output.new) }
-{
-    let Ok(line) = fault.line(alloc) else {
-        return Stop::NoMemory.status();
-    };
-    say(output, Stop::Input(fault), &line)
-}
-
-// Writes the line that says why an audit stops, and answers its status, or 1 where there is no memory for the line. That a read failed
-// takes no memory to say.
-fn tell<K: Sink>(alloc: Global, output: &mut K, stop: Stop) -> u8
-    ensures silent { result ≡ 1 → Keeps (K.written output.old) (K.written output.new) }
-    ensures status { result ≢ 1 → result ≡ status_of stop }
-    ensures read { stop ≡ Stop.Read → result ≡ 3 }
-    ensures line { result ≢ 1 → WritesLine (line_of stop)
-        (K.written output.old) (K.written output.new) (K.faults output.old) (K.faults output.new) }
-{
-    match stop {
-        Stop::NoMemory => stop.status(),
-        Stop::Read => say(output, stop, b"stop 3 read\n"),
-        Stop::Write => say(output, stop, b""),
-        Stop::Input(fault) => tell_fault(alloc, output, fault),
-    }
 }
 
 /// The word `audit`: reads a kit up to the line `go`, and then journals, with these processes taken as correct, and all others as corrupt. It
@@ -137,8 +81,6 @@ pub fn run_audit<S: Source, K: Sink>(
         → (result ≡ status) ⊎ (result ≡ 1) }
     ensures only { (result ≡ 0) ⊎ (result ≡ 1) ⊎ (result ≡ 3) ⊎ (result ≡ 4) ⊎ (result ≡ 7) ⊎ (result ≡ 8) }
 {
-    match audit_all(alloc, listed, input) {
-        Ok(line) => give(output, &line),
-        Err(stop) => tell(alloc, output, stop),
-    }
+    let made = audit_all(alloc, listed, input);
+    finish(alloc, made, output)
 }

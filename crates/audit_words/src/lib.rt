@@ -2,7 +2,6 @@
 #![tactic(auto)]
 
 mod auditing;
-mod stops;
 
 pub use auditing::run_audit;
 pub use rp_base::{PidSet, Sink, Source};

@@ -44,8 +44,8 @@ impl<G: Tally + Drop> Hosted<G> {
         Ok(Hosted { core })
     }
 
-    /// The process of a core that begins again from an image, at a place of its journal: what the core has signed, the image and the entries
-    /// before that place tell of. A core that has stepped since is none of these.
+    /// The process of a core that begins again from an image, at a place of its journal. All that the core has signed is in the image or in
+    /// an entry before that place; so the core has not stepped since.
     pub fn again(core: Core<G>) -> Hosted<G>
         ensures core { core_of result ≡ core }
         ensures real { (s : Setting) (p : Process) → IsCore G.used s p core → IsReal G.used result }

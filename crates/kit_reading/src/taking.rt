@@ -3,7 +3,7 @@ ghost use Rattle.std.specs.Prelude.{◌≡◌, ◌∷◌, [], ◌++◌, length, 
 ghost use Rattle.byte_defs.specs.Reads.{Makes};
 ghost use Rattle.sig_scheme.specs.Keys.{key_bytes, key_scheme, refusal_of};
 ghost use Rattle.sig_scheme.specs.Views.{secret};
-ghost use Rattle.signature_defs.specs.Secrets.{Plain, scheme_of};
+ghost use Rattle.signature_defs.specs.Secrets.{Plain, Lms, Hss, scheme_of};
 ghost use Rattle.text_codec.specs.Views.{parts_left};
 ghost use Rattle.kit_defs.specs.Kits as plain_kits;
 ghost use Rattle.kit_defs.specs.Kits.{key_length, secret_line};
@@ -19,7 +19,7 @@ use kit_draft::Draft;
 use kit_file::{Host, public_key_of};
 use kit_lines::{KitLine, line_by};
 use rp_base::{NoMemory, Pid};
-use sig_scheme::{PublicKey, Secret};
+use sig_scheme::{OtsType, PublicKey, Secret};
 use std::alloc::Global;
 use text_codec::Parts as Words;
 
@@ -145,6 +145,31 @@ fn add_tree_host(
     Ok(())
 }
 
+// The secret of a tree with these parameters.
+fn tree(height: u8, ots: OtsType, id: [u8; 16], seed: [u8; 32]) -> Secret
+    ensures { secret result ≡ Lms height ots id seed }
+{
+    Secret::Lms {
+        height,
+        ots,
+        id,
+        seed,
+    }
+}
+
+// The secret of this many levels of trees with these parameters.
+fn levels_of(levels: u8, height: u8, ots: OtsType, id: [u8; 16], seed: [u8; 32]) -> Secret
+    ensures { secret result ≡ Hss levels height ots id seed }
+{
+    Secret::Hss {
+        levels,
+        height,
+        ots,
+        id,
+        seed,
+    }
+}
+
 // Puts a line after those so far, where it is the next one.
 fn add_line(draft: &mut Draft, alloc: Global, number: usize, said: KitLine) -> Result<(), KitFault>
     requires { CanAdd number draft.old (line said) }
@@ -168,12 +193,7 @@ fn add_line(draft: &mut Draft, alloc: Global, number: usize, said: KitLine) -> R
             id,
             seed,
         } => {
-            let secret = Secret::Lms {
-                height,
-                ots,
-                id,
-                seed,
-            };
+            let secret = tree(height, ots, id, seed);
             add_tree_host(draft, alloc, number, process, secret)?;
         }
         KitLine::HssHost {
@@ -184,13 +204,7 @@ fn add_line(draft: &mut Draft, alloc: Global, number: usize, said: KitLine) -> R
             id,
             seed,
         } => {
-            let secret = Secret::Hss {
-                levels,
-                height,
-                ots,
-                id,
-                seed,
-            };
+            let secret = levels_of(levels, height, ots, id, seed);
             add_tree_host(draft, alloc, number, process, secret)?;
         }
         KitLine::Pair { other, key, .. } => push_pair(&mut draft.hosts, other, key)?,

@@ -1,5 +1,6 @@
 pub mod Telling
 pub mod Waits
+pub mod Reached
 pub mod Certified
 pub mod Ordering
 pub mod Following

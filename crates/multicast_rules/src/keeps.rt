@@ -1,12 +1,21 @@
-ghost use Rattle.std.specs.Prelude.{◌≡◌};
+ghost use Rattle.std.specs.Prelude.{◌≡◌, ◌<◌, ℕ, true};
 ghost use Rattle.std.specs.Option.{option_map};
 ghost use Rattle.message_defs.specs.Statements as plain;
+ghost use Rattle.message_defs.specs.Statements.{KeepAt};
 ghost use Rattle.group_defs.specs.Process.{Setting, Process, Keeps};
 ghost use Rattle.group_defs.specs.Due.{least_due};
 ghost use Rattle.own_place.specs.Owns.{IsOwnOf};
+ghost use Rattle.own_place.specs.Signed.{has_slot};
 
 use pool_questions::{Own, Pool};
 use stmt_codec::Batch;
+
+// A place below which each own Keep is signed.
+fn keeps_below(pool: &Pool, own: &Own) -> u16
+    ensures { (k : ℕ) → k < result → has_slot own.now.signed (KeepAt pool.now.pool.view.number k) ≡ true }
+{
+    own.signed.keeps_below(pool.view().number())
+}
 
 /// The place whose Keep is due, with its batch; None exactly where none is.
 pub fn keep_due(pool: &Pool, own: &Own) -> Option<(u16, Batch)>
@@ -16,6 +25,11 @@ pub fn keep_due(pool: &Pool, own: &Own) -> Option<(u16, Batch)>
 {
     own.position?;
     if own.ended {
+        return None;
+    }
+    let reached = keeps_below(pool, own);
+    let placed = pool.placed_len();
+    if placed <= reached {
         return None;
     }
     let place = own.signed.first_unsigned_keep(pool.view().number())?;

@@ -8,7 +8,7 @@ use node_script::Stop;
 use rp_base::{Sink, write_all};
 use std::alloc::Global;
 
-// Writes the line, if there is one. A fault is no more than that.
+// Writes the line, if there is one. A fault of the output changes nothing else.
 #[tactic(none)]
 fn say<K: Sink>(output: &mut K, line: &[u8])
     ensures { SaysLast line.now (sink_seen K.written K.faults output.old) (sink_seen K.written K.faults output.new) }

@@ -148,7 +148,8 @@ fn resume<S: Source, K: Sink, D: Disk, L: Link, V: Service>(
 /// | Status | Written last | Comes |
 /// |---|---|---|
 /// | 7 | `stop 7 snap N` | line N, the one after `go`, is no such line; or an image is another process's, or not kept, or the key signed more |
-/// | 8 | `stop 8 journal 0 PLACE` | PLACE is the snapshot's, and the journal has another header, or is of the second kind and the images of the first version, or has no byte at the place, or other bytes before it |
+/// | 8 | `stop 8 journal 0 PLACE` | PLACE is the snapshot's, and the journal has another header, or no byte at the place, or other bytes before it |
+/// | 8 | `stop 8 journal 0 PLACE` | PLACE is the snapshot's, the journal is of the second kind, and the images are of the first version |
 ///
 /// The line is judged before any call of the disk, and a journal with no header of the kit is still `stop 8 journal 0 0`. A refusal leaves a disk
 /// that is not empty as it was.

@@ -239,6 +239,20 @@ impl SignedSlots {
         self.reached(&Row::Places, view)
     }
 
+    /// A number below which the Init of each number is signed in the view of this number. No slot is looked up.
+    pub fn inits_below(&self, view: u16) -> u16
+        ensures { (l : ℕ) → l < result → has_slot self.now (InitAt view l) ≡ true }
+    {
+        self.reached(&Row::Inits, view)
+    }
+
+    /// A number below which the Keep of each place is signed in the view of this number. No slot is looked up.
+    pub fn keeps_below(&self, view: u16) -> u16
+        ensures { (k : ℕ) → k < result → has_slot self.now (KeepAt view k) ≡ true }
+    {
+        self.reached(&Row::Keeps, view)
+    }
+
     /// The least number whose Init is not signed in the view of this number; None exactly where all 1,024 are.
     pub fn first_unsigned_init(&self, view: u16) -> Option<u16>
         ensures { IsLeastBelow most_places (λ l. not (has_slot self.now (InitAt view l))) result }

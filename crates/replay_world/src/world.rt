@@ -231,23 +231,13 @@ impl World {
     {
         match what {
             ScheduleEvent::Submit { at, payload } => {
-                self.hand(
-                    alloc,
-                    *at,
-                    Handed::Payload,
-                    &Event::Submit(payload),
-                    reported,
-                )
+                let event = Event::Submit(payload);
+                self.hand(alloc, *at, Handed::Payload, &event, reported)
             }
             ScheduleEvent::Raw { to, from, bytes } => {
                 let from = *from;
-                self.hand(
-                    alloc,
-                    *to,
-                    Handed::Bytes { from },
-                    &Event::Frame { from, bytes },
-                    reported,
-                )
+                let event = Event::Frame { from, bytes };
+                self.hand(alloc, *to, Handed::Bytes { from }, &event, reported)
             }
             ScheduleEvent::Pass { frame, to } => self.pass(alloc, *frame, *to, reported),
             ScheduleEvent::Drain { count, to } => self.drain(alloc, *count, *to, reported),
@@ -257,13 +247,8 @@ impl World {
                 statement,
             } => self.lie(alloc, *signer, *to, statement, reported),
             ScheduleEvent::Suspect { at, of } => {
-                self.hand(
-                    alloc,
-                    *at,
-                    Handed::Suspects(*of),
-                    &Event::Suspect(*of),
-                    reported,
-                )
+                let event = Event::Suspect(*of);
+                self.hand(alloc, *at, Handed::Suspects(*of), &event, reported)
             },
             ScheduleEvent::Join { at, of } => {
                 self.hand(alloc, *at, Handed::Joins(*of), &Event::Join(*of), reported)

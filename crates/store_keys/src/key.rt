@@ -12,7 +12,7 @@ use sig_scheme::{AnySigner, KeyFault, Secret};
 use std::alloc::Global;
 use store_records::{reply_secret, state_secret};
 
-/// A key that signs with a leaf that is named, and with none again.
+/// A key that signs with the leaf that its caller names, and with no leaf twice.
 #[derive(Drop)]
 pub struct LeafKey {
     signer: AnySigner,

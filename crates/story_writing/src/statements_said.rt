@@ -115,6 +115,36 @@ fn push_last(out: &mut Vec<u8>, rank: u8, ready: Option<(u8, Value)>) -> Result<
     push_report(out, ready)
 }
 
+// What an Order, a Place or a Keep says: its view and kind, and then its place and batch.
+fn push_batch(
+    out: &mut Vec<u8>,
+    view: u16,
+    kind: &[u8],
+    place: u16,
+    batch: Batch,
+) -> Result<(), NoMemory>
+    ensures { OnOk result (out.new.items ≡ out.old.items
+        ++ behind (plain.kind_tokens view kind.now ++ plain.number place ∷ flat_map plain.message_tokens batch)) }
+{
+    push_kind(out, view, kind)?;
+    push_placed(out, place, batch)
+}
+
+// What a Suggest, an Ack or a Ready says: its view and kind, and then its rank and value.
+fn push_ranked(
+    out: &mut Vec<u8>,
+    view: u16,
+    kind: &[u8],
+    rank: u8,
+    value: Value,
+) -> Result<(), NoMemory>
+    ensures { OnOk result (out.new.items ≡ out.old.items
+        ++ behind (plain.kind_tokens view kind.now ++ plain.number rank ∷ plain.value_tokens (base.value value))) }
+{
+    push_kind(out, view, kind)?;
+    push_valued(out, rank, value)
+}
+
 // A statement in words.
 fn push_worded(out: &mut Vec<u8>, said: &Statement<'_>) -> Result<(), NoMemory>
     ensures { OnOk result (out.new.items ≡ out.old.items ++ behind (plain.worded (statements.stmt said.now))) }
@@ -137,18 +167,9 @@ fn push_worded(out: &mut Vec<u8>, said: &Statement<'_>) -> Result<(), NoMemory>
             push_kind(out, view, b"echo")?;
             push_echoed(out, sender, number, payload)
         }
-        Statement::Order { view, place, batch } => {
-            push_kind(out, view, b"order")?;
-            push_placed(out, place, batch)
-        }
-        Statement::Place { view, place, batch } => {
-            push_kind(out, view, b"place")?;
-            push_placed(out, place, batch)
-        }
-        Statement::Keep { view, place, batch } => {
-            push_kind(out, view, b"keep")?;
-            push_placed(out, place, batch)
-        }
+        Statement::Order { view, place, batch } => push_batch(out, view, b"order", place, batch),
+        Statement::Place { view, place, batch } => push_batch(out, view, b"place", place, batch),
+        Statement::Keep { view, place, batch } => push_batch(out, view, b"keep", place, batch),
         Statement::Notify { view, update } => {
             push_kind(out, view, b"notify")?;
             push_update(out, update)
@@ -161,18 +182,9 @@ fn push_worded(out: &mut Vec<u8>, said: &Statement<'_>) -> Result<(), NoMemory>
             push_kind(out, view, b"last")?;
             push_last(out, rank, ready)
         }
-        Statement::Suggest { view, rank, value } => {
-            push_kind(out, view, b"suggest")?;
-            push_valued(out, rank, value)
-        }
-        Statement::Ack { view, rank, value } => {
-            push_kind(out, view, b"ack")?;
-            push_valued(out, rank, value)
-        }
-        Statement::Ready { view, rank, value } => {
-            push_kind(out, view, b"ready")?;
-            push_valued(out, rank, value)
-        }
+        Statement::Suggest { view, rank, value } => push_ranked(out, view, b"suggest", rank, value),
+        Statement::Ack { view, rank, value } => push_ranked(out, view, b"ack", rank, value),
+        Statement::Ready { view, rank, value } => push_ranked(out, view, b"ready", rank, value),
     }
 }
 

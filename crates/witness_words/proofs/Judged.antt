@@ -23,11 +23,11 @@ use Rattle.kit_reading.specs.Fronts.{Begins, HasFault, front_fault}
 use Rattle.audit_defs.specs.Players.{setting_of}
 use Rattle.witness_defs.specs.Lines.{Evidence}
 use Rattle.witness_defs.specs.Judging.{Judged, NoInput, Refusal, if_read, judged, judged_behind}
-use Rattle.witness_words.specs.declared.stops.Fault.{Fault}
-use Rattle.witness_words.specs.declared.stops.Stop.TheVariants.{Input}
+use Rattle.audit_input.specs.declared.stops.Fault.{Fault}
+use Rattle.audit_input.specs.declared.stops.Stop.TheVariants.{Input}
 use Rattle.witness_words.specs.Places.{Place, Refuses, ReportsAs, Verdict, and_then, behind, judged_from, place}
 use Rattle.witness_words.specs.Running.{Takes}
-use Rattle.witness_words.specs.Stops.{fault_line, fault_status, of_front, of_kit}
+use Rattle.audit_input.specs.Stops.{fault_line, fault_status, of_front, of_kit}
 
 -- ---- whom a frame convicts
 

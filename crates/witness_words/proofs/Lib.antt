@@ -1,4 +1,3 @@
-pub mod Reasons
 pub mod Lines
 pub mod Steps
 pub mod Judged

@@ -1,6 +1,6 @@
 -- The lines of those whom an audit convicts, as they are written.
-use Rattle.std.proofs.Common.{◌≡◌, ℕ, ◌<◌, ◌≤◌, Bool, true, List, [], ◌∷◌, ◌++◌, length, map, codes, inl, inr, Option, Result, Ok, Err, arith, refl, sym, ap, subst, ◌∙◌, append_assoc}
-use Rattle.std.specs.Prelude.{flat_map, IsTrue, OnOk}
+use Rattle.std.proofs.Common.{◌≡◌, ℕ, ◌<◌, ◌≤◌, Bool, true, List, [], ◌∷◌, ◌++◌, length, map, codes, inl, inr, Option, Result, Ok, Err, arith, refl, sym, ap, subst, ◌∙◌, append_assoc, Vec, Global}
+use Rattle.std.specs.Prelude.{flat_map, IfOk, IsOkAnd, IsTrue, OnOk}
 use Rattle.std.specs.List.{AllByRecursion}
 use Rattle.std.specs.Fmt.{decimal}
 use Rattle.std.specs.Io.KnownBytes.{Appends}
@@ -37,7 +37,9 @@ use Rattle.proof_lines.proofs.OfListed.{audit_is_of_listed}
 use Rattle.audit_defs.specs.Players.{setting_of}
 use Rattle.witness_words.specs.Seen.{CanTravel, HasOneSigner, bundle_of, conviction_line, draft_of, evidence_with, line_with, travels}
 use Rattle.witness_words.specs.Running.{Audits, Convicted, ConvictedInPart, JudgeTakes, text_of}
-use Rattle.witness_words.proofs.Reasons.{all_audited}
+use Rattle.audit_input.proofs.Reasons.{all_audited}
+use Rattle.audit_input.specs.declared.stops.Stop.{Stop}
+use Rattle.audit_input.proofs.Statuses.{made_and_written}
 
 head-is : {A : Type 0} (x y : A) (xs ys : List A) → x ∷ xs ≡ y ∷ ys → (x ≡ y) × (xs ≡ ys)
 head-is x y xs ys e = (cc, cc)
@@ -165,9 +167,14 @@ lines-are listed before now input f cs text read found says shows written can =
           (same-evidence cs (convicted_by found.0) evidence' reported') can,
     )
 
-module _ (listed : List ℕ) (before now old new : Option (List ℕ)) (text : List ℕ) (is : Lines listed before now text) where
-  pub convicted : Appends old new text → Convicted listed before now old new
-  convicted wrote = record { audits = is.0; wrote = subst (Appends old new) is.1 wrote; taken = is.2 }
+module _ (listed : List ℕ) (before now old new : Option (List ℕ)) (made : Result (Vec ℕ Global) Stop)
+    (is : IfOk made (λ text. Lines listed before now text.items)) where
+  pub convicted : IsOkAnd made (λ text. Appends old new text.items) → Convicted listed before now old new
+  convicted wrote =
+      let m = made_and_written (λ (text : Vec ℕ Global). Lines listed before now text.items) (λ text. Appends old new text.items) made is wrote in
+      record { audits = m.1.0; wrote = subst (Appends old new) m.1.1 m.2; taken = m.1.2 }
 
-  pub convicted-in-part : AppendsPrefix old new text → ConvictedInPart listed before now old new
-  convicted-in-part wrote = record { audits = is.0; wrote = subst (AppendsPrefix old new) is.1 wrote }
+  pub convicted-in-part : IsOkAnd made (λ text. AppendsPrefix old new text.items) → ConvictedInPart listed before now old new
+  convicted-in-part wrote =
+      let m = made_and_written (λ (text : Vec ℕ Global). Lines listed before now text.items) (λ text. AppendsPrefix old new text.items) made is wrote in
+      record { audits = m.1.0; wrote = subst (AppendsPrefix old new) m.1.1 m.2 }

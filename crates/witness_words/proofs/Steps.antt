@@ -18,8 +18,8 @@ use Rattle.line_laws.proofs.Parts.{one_part, parts_by_line, parts_some}
 use Rattle.audit_defs.specs.Players.{setting_of}
 use Rattle.witness_defs.specs.Lines.{Evidence, evidence_in, most_evidence_line}
 use Rattle.witness_defs.specs.Judging.{NoInput, NotTaken, Refusal, is_taken, judged_at}
-use Rattle.witness_words.specs.declared.stops.Fault.{Fault}
-use Rattle.witness_words.specs.declared.stops.Fault.TheVariants as faults
+use Rattle.audit_input.specs.declared.stops.Fault.{Fault}
+use Rattle.audit_input.specs.declared.stops.Fault.TheVariants as faults
 use Rattle.witness_words.specs.Places.{Refuses, ReportsAs, Verdict, and_then, behind, if_taken, judged_from, line_gives, place}
 
 -- judging goes on behind what a line gives

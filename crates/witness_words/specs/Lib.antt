@@ -1,4 +1,3 @@
-pub mod Stops
 pub mod Running
 pub mod Places
 pub mod Seen

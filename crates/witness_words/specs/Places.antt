@@ -9,8 +9,8 @@ use Rattle.line_input.specs.Places.{Settles}
 use Rattle.audit_defs.specs.Players.{setting_of}
 use Rattle.witness_defs.specs.Lines.{Evidence, evidence_in}
 use Rattle.witness_defs.specs.Judging.{NoInput, NotTaken, Refusal, is_taken, judged_at, refusal_line}
-use Rattle.witness_words.specs.declared.stops.Fault.{Fault}
-use Rattle.witness_words.specs.Stops.{fault_line, fault_status}
+use Rattle.audit_input.specs.declared.stops.Fault.{Fault}
+use Rattle.audit_input.specs.Stops.{fault_line, fault_status}
 
 -- A place after a kit: the number of the next line, and the bytes of the next lines that are read already.
 pub record Place : Type 0 where

@@ -1,7 +1,8 @@
 -- What a run of `witness` has read and written: by what a source had left before and has left now, what a sink held before and holds now,
 -- and the counts of the sink's faults before and now. Of a stream that does not say what it holds, nothing is said by it.
 -- Names here (* for this crate alone):
---   convict: Audits*, text_of*, Unread*, JudgeTakes*, Convicted, ConvictedInPart, Unconvicted, HasFindings, HasNoFindings
+--   of an input with no findings, from audit_input: HasFindings, HasNoFindings, Unconvicted, Unread*
+--   convict: Audits*, text_of*, JudgeTakes*, Convicted, ConvictedInPart
 --   proofs: Proved, ProvedInPart
 --   judge: Takes*, Refused*, IsTaken*, IsRefused*
 use Rattle.std.specs.Prelude.{◌≡◌, ℕ, List, [], ◌∷◌, ◌++◌, map, Option, Ok, Err, IsOk, IsErr, IsSomeAnd}
@@ -9,7 +10,7 @@ use Rattle.std.specs.Io.KnownBytes.{Appends}
 use Rattle.rp_base.specs.Streams.{AppendsPrefix, WritesLine}
 use Rattle.line_input.specs.Places.{Ends, Settles}
 use Rattle.audit_defs.specs.Audits.{Audited}
-use Rattle.audit_defs.specs.Findings.{NoFindings, audit_of, status_of, stop_line}
+use Rattle.audit_defs.specs.Findings.{audit_of}
 use Rattle.input_defs.specs.Fronts.{Front, front_of}
 use Rattle.audit_defs.specs.Players.{setting_of}
 use Rattle.witness_defs.specs.Lines.{convicted_by, evidence_of, evidence_text}
@@ -17,6 +18,8 @@ use Rattle.witness_defs.specs.Judging as defs
 use Rattle.witness_defs.specs.Judging.{Judged, Refusal, judged, refusal_line}
 use Rattle.proof_defs.specs.Lines.{proofs_text}
 use Rattle.proof_lines.specs.Taken.{ChainTakes}
+-- an input with no findings, and what is written of it
+pub use Rattle.audit_input.specs.Unread.{HasFindings, HasNoFindings, Unfound as Unconvicted, Unread}
 
 -- ---- convict
 
@@ -28,11 +31,6 @@ pub record Audits (listed : List ℕ) (before now : Option (List ℕ)) : Type 0 
 -- a line of evidence for each whom the audit convicts
 abbrev pub text_of : {listed : List ℕ} {before now : Option (List ℕ)} → Audits listed before now → List ℕ
 text_of a = evidence_text a.audited
-
--- What was read has no findings, whatever comes after it, or as the input ends with it, and this is why.
-pub record Unread (listed : List ℕ) (before now : Option (List ℕ)) : Type 0 where
-  pub why : NoFindings
-  pub is : Settles (audit_of listed) before now (Err why)
 
 -- What `judge` says to the lines of an audit's convictions: it takes all, after any lines that are read as a kit of the audit's setting.
 abbrev pub JudgeTakes : Audited → Type 0
@@ -49,21 +47,6 @@ pub record Convicted (listed : List ℕ) (before now old new : Option (List ℕ)
 pub record ConvictedInPart (listed : List ℕ) (before now old new : Option (List ℕ)) : Type 0 where
   pub audits : Audits listed before now
   pub wrote : AppendsPrefix old new (text_of audits)
-
--- What was read has no findings, for a reason of this status. The line that says why was written and nothing else, or a prefix of it where
--- the sink failed.
-pub record Unconvicted (listed : List ℕ) (status : ℕ) (before now old new : Option (List ℕ)) (faults faults_now : ℕ) : Type 0 where
-  pub unread : Unread listed before now
-  pub is_status : status_of unread.why ≡ status
-  pub said : WritesLine (stop_line unread.why) old new faults faults_now
-
--- the source says what it has left, and an audit finds something in it
-abbrev pub HasFindings : List ℕ → Option (List ℕ) → Type 0
-HasFindings listed left = IsSomeAnd left (λ bytes. IsOk (audit_of listed bytes))
-
--- it finds nothing, for a reason of this status
-abbrev pub HasNoFindings : List ℕ → ℕ → Option (List ℕ) → Type 0
-HasNoFindings listed status left = IsSomeAnd left (λ bytes. (why : NoFindings) × (audit_of listed bytes ≡ Err why) × (status_of why ≡ status))
 
 -- ---- proofs
 

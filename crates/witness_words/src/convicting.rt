@@ -5,13 +5,11 @@ ghost use Rattle.rp_base.specs.Causes.{Rose};
 ghost use Rattle.rp_base.specs.Streams.{WritesLine};
 ghost use Rattle.audit_defs.specs.Findings as findings;
 ghost use Rattle.audit_defs.specs.Findings.{stop_line};
-ghost use Rattle.witness_words.specs.Stops.{fault_line, fault_status};
+ghost use Rattle.audit_input.specs.Stops.{fault_line, fault_status};
 ghost use Rattle.witness_words.specs.Running.{Audits, Convicted, ConvictedInPart, HasFindings, HasNoFindings, JudgeTakes, Unconvicted, Unread, text_of};
 
-use crate::stops::{Fault, Stop};
-use crate::telling::{give, tell};
 use crate::writing::evidence_text;
-use audit_input::read_input;
+use audit_input::{Fault, Stop, finish, read_input};
 use proof_lines::audit;
 use rp_base::{PidSet, Sink, Source};
 use std::alloc::Global;
@@ -84,8 +82,6 @@ pub fn convict<S: Source, K: Sink>(
         → (result ≡ status) ⊎ (result ≡ 1) }
     ensures only { (result ≡ 0) ⊎ (result ≡ 1) ⊎ (result ≡ 3) ⊎ (result ≡ 4) ⊎ (result ≡ 7) ⊎ (result ≡ 8) }
 {
-    match convict_all(alloc, listed, input) {
-        Ok(text) => give(output, &text),
-        Err(stop) => tell(alloc, output, stop),
-    }
+    let made = convict_all(alloc, listed, input);
+    finish(alloc, made, output)
 }

@@ -10,11 +10,9 @@ ghost use Rattle.witness_defs.specs.Judging as plain;
 ghost use Rattle.witness_words.specs.Places.{Refuses, ReportsAs, behind, judged_from, line_gives, place};
 ghost use Rattle.witness_words.specs.Running.{IsRefused, IsTaken, Refused, Takes};
 ghost use Rattle.witness_words.specs.Seen.{evidence_with};
-ghost use Rattle.witness_words.specs.Stops.{line_of, status_of};
 
 use crate::reading::{MOST_EVIDENCE_LINE, evidence_in};
-use crate::stops::{Fault, Stop};
-use crate::telling::tell;
+use audit_input::{Fault, Stop, report};
 use conviction::convicts;
 use frame_codec::{FrameView, split_frame};
 use kit_reading::{Kit, Lines, Next, read_front};
@@ -147,6 +145,6 @@ pub fn judge<S: Source, K: Sink>(alloc: Global, input: &mut S, output: &mut K) -
 {
     match judge_all(alloc, input) {
         Ok(()) => 0,
-        Err(stop) => tell(alloc, output, stop),
+        Err(stop) => report(alloc, output, stop),
     }
 }

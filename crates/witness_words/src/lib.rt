@@ -6,8 +6,6 @@ mod convicting;
 mod judging;
 mod proving;
 mod reading;
-mod stops;
-mod telling;
 mod writing;
 
 pub use convicting::convict;

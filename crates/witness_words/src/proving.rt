@@ -1,18 +1,16 @@
 //! Proofs of views from journals.
 ghost use Rattle.std.specs.Prelude.{◌≡◌, ◌⊎◌, ◌∷◌, [], ℕ, IfOk, IsErrOf, codes};
-ghost use Rattle.std.specs.Io.KnownBytes.{Appends, Keeps};
+ghost use Rattle.std.specs.Io.KnownBytes.{Keeps};
 ghost use Rattle.rp_base.specs.Causes.{Rose};
-ghost use Rattle.rp_base.specs.Streams.{AppendsPrefix, WritesLine};
+ghost use Rattle.rp_base.specs.Streams.{WritesLine};
 ghost use Rattle.audit_defs.specs.Findings as findings;
 ghost use Rattle.audit_defs.specs.Findings.{stop_line};
-ghost use Rattle.witness_words.specs.Stops.{fault_line, fault_status};
+ghost use Rattle.audit_input.specs.Stops.{fault_line, fault_status};
 ghost use Rattle.proof_defs.specs.Lines.{proofs_text};
 ghost use Rattle.proof_lines.specs.Taken.{ChainTakes};
 ghost use Rattle.witness_words.specs.Running.{Audits, HasFindings, HasNoFindings, Proved, ProvedInPart, Unconvicted, Unread};
 
-use crate::stops::{Fault, Stop};
-use crate::telling::{give, tell};
-use audit_input::read_input;
+use audit_input::{Fault, Stop, finish, read_input};
 use proof_lines::lines_in;
 use rp_base::{Pid, Sink, Source};
 use std::alloc::Global;
@@ -80,8 +78,6 @@ pub fn proofs<S: Source, K: Sink>(alloc: Global, p: Pid, input: &mut S, output: 
         → (result ≡ status) ⊎ (result ≡ 1) }
     ensures only { (result ≡ 0) ⊎ (result ≡ 1) ⊎ (result ≡ 3) ⊎ (result ≡ 4) ⊎ (result ≡ 7) ⊎ (result ≡ 8) }
 {
-    match prove_all(alloc, p, input) {
-        Ok(text) => give(output, &text),
-        Err(stop) => tell(alloc, output, stop),
-    }
+    let made = prove_all(alloc, p, input);
+    finish(alloc, made, output)
 }

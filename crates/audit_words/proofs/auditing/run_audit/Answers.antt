@@ -1,84 +1,50 @@
-use Rattle.std.proofs.Common.{◌≢◌, Err, inl, inr, sym, ap, subst, ◌∙◌, arith}
-use Rattle.rp_base.specs.Streams.{WritesLine}
-use Rattle.audit_words.specs.declared.stops.Stop.{Stop}
-use Rattle.audit_words.specs.declared.stops.Stop.TheVariants.{Read}
-use Rattle.audit_words.specs.Stops.{line_of}
+use Rattle.std.proofs.Common.{inl, inr, arith}
+use Rattle.audit_input.proofs.Statuses.{completes, refuses, some_found, unfound}
 use Rattle.audit_words.proofs.Runs.{found, found_in_part}
-use Rattle.audit_words.proofs.Statuses.{at_read, at_write, err_is, never_stops, never_zero, only_these, read_is_three, some_found, stops, stops_so}
 use Rattle.audit_words.proofs.auditing.run_audit.Goals as goal
 
-pub returns-in-Ok-clause-audited : goal.returns-in-Ok-clause-audited
-returns-in-Ok-clause-audited g c = λ zero.
-    found c.args.listed _ _ _ _ c.in-Ok.line.items c.in-Ok.ensures.found (rw c.deref.ensures.value at c.give.ensures.done zero)
+pub returns-clause-audited : goal.returns-clause-audited
+returns-clause-audited g c = λ zero. found c.args.listed _ _ _ _ c.audit_all.result c.audit_all.ensures.found (c.finish.ensures.done zero)
 
-pub returns-in-Ok-clause-part : goal.returns-in-Ok-clause-part
-returns-in-Ok-clause-part g c = λ four.
-    found_in_part c.args.listed _ _ _ _ c.in-Ok.line.items c.in-Ok.ensures.found (rw c.deref.ensures.value at c.give.ensures.part four)
+pub returns-clause-part : goal.returns-clause-part
+returns-clause-part g c = λ four. found_in_part c.args.listed _ _ _ _ c.audit_all.result c.audit_all.ensures.found (c.finish.ensures.part four)
 
-pub returns-in-Ok-clause-refuses : goal.returns-in-Ok-clause-refuses
-returns-in-Ok-clause-refuses g c = λ status none calm. absurd (some_found c.args.listed _ _ c.in-Ok.ensures.found.0 status none)
+pub returns-clause-audit_stops : goal.returns-clause-audit_stops
+returns-clause-audit_stops g c = λ which.
+    unfound c.audit_all.result c.args.listed _ _ _ _ _ _ c.finish.result c.audit_all.ensures.refused (c.finish.ensures.stops which)
 
-pub returns-in-Err-clause-audit_stops : goal.returns-in-Err-clause-audit_stops
-returns-in-Err-clause-audit_stops g c = λ which.
-    stops c.args.listed _ _ c.in-Err.stop c.tell.result (λ fault e. c.in-Err.ensures.refused fault (ap (λ (s : Stop). Err s) e))
-    c.tell.ensures.status which _ _ _ _ c.tell.ensures.line
+pub returns-clause-completes : goal.returns-clause-completes
+returns-clause-completes g c = λ some calm calm_sink.
+    completes c.audit_all.result c.args.listed _ _ _ _ _ _ c.finish.result c.audit_all.ensures.refused c.finish.ensures.only
+    (λ three. calm (c.audit_all.ensures.read (c.finish.ensures.read three))) c.finish.ensures.stops some
+    (λ four. calm_sink (c.finish.ensures.write four))
 
-pub returns-in-Err-clause-completes : goal.returns-in-Err-clause-completes
-returns-in-Err-clause-completes g c = λ some calm calm_sink.
-    never_stops c.args.listed _ _ c.in-Err.stop c.tell.result (λ fault e. c.in-Err.ensures.refused fault (ap (λ (s : Stop). Err s) e))
-    c.tell.ensures.status
-    (λ e. calm (c.in-Err.ensures.read (ap (λ (s : Stop). Err s) e))) (λ e. c.in-Err.ensures.no_write (ap (λ (s : Stop). Err s) e)) some
+pub returns-clause-refuses : goal.returns-clause-refuses
+returns-clause-refuses g c = λ status none calm.
+    refuses c.audit_all.result c.args.listed _ _ _ _ _ _ c.finish.result c.audit_all.ensures.refused c.finish.ensures.only
+    (λ three. calm (c.audit_all.ensures.read (c.finish.ensures.read three))) c.finish.ensures.stops status none
+    (λ zero. let a = (found c.args.listed _ _ _ _ c.audit_all.result c.audit_all.ensures.found (c.finish.ensures.done zero)).audits in
+    some_found c.args.listed _ _ a.audited a.all status none)
+    (λ four. let a = (found_in_part c.args.listed _ _ _ _ c.audit_all.result c.audit_all.ensures.found (c.finish.ensures.part four)).audits in
+    some_found c.args.listed _ _ a.audited a.all status none)
 
-pub returns-in-Err-clause-refuses : goal.returns-in-Err-clause-refuses
-returns-in-Err-clause-refuses g c = λ status none calm.
-    stops_so c.args.listed _ _ c.in-Err.stop c.tell.result (λ fault e. c.in-Err.ensures.refused fault (ap (λ (s : Stop). Err s) e))
-    c.tell.ensures.status
-    (λ e. calm (c.in-Err.ensures.read (ap (λ (s : Stop). Err s) e))) (λ e. c.in-Err.ensures.no_write (ap (λ (s : Stop). Err s) e)) status none
+pub returns-clause-steady : goal.returns-clause-steady
+returns-clause-steady g c = λ zero. elim c.audit_all.ensures.steady [
+  | inl bad ↦ absurd (let three = c.finish.ensures.failed bad in omega (arith, zero, three))
+  | inr same ↦ (same, c.finish.ensures.steady zero)
+]
 
-pub returns-in-Err-clause-audited : goal.returns-in-Err-clause-audited
-returns-in-Err-clause-audited g c = λ zero.
-    let other : c.tell.result ≢ 1 = λ e. omega (arith, zero, e) in
-    absurd (never_zero c.in-Err.stop (sym (c.tell.ensures.status other) ∙ zero))
-
-pub returns-in-Err-clause-steady : goal.returns-in-Err-clause-steady
-returns-in-Err-clause-steady g c = λ zero.
-    let other : c.tell.result ≢ 1 = λ e. omega (arith, zero, e) in
-    absurd (never_zero c.in-Err.stop (sym (c.tell.ensures.status other) ∙ zero))
-
-pub returns-in-Err-clause-read : goal.returns-in-Err-clause-read
-returns-in-Err-clause-read g c = λ three.
-    let other : c.tell.result ≢ 1 = λ e. omega (arith, three, e) in
-    c.in-Err.ensures.read (ap (λ (s : Stop). Err s) (at_read c.in-Err.stop (sym (c.tell.ensures.status other) ∙ three)))
-
-pub returns-in-Err-clause-read_line : goal.returns-in-Err-clause-read_line
-returns-in-Err-clause-read_line g c = λ three.
-    let other : c.tell.result ≢ 1 = λ e. omega (arith, three, e) in
-    subst (λ (s : Stop). WritesLine (line_of s) (g.K.Sink.written c.args.output.now) (g.K.Sink.written c.tell.new.output)
-    (g.K.Sink.faults c.args.output.now) (g.K.Sink.faults c.tell.new.output))
-    (at_read c.in-Err.stop (sym (c.tell.ensures.status other) ∙ three))
-    (c.tell.ensures.line other)
-
-pub returns-in-Err-clause-write : goal.returns-in-Err-clause-write
-returns-in-Err-clause-write g c = λ four.
-    let other : c.tell.result ≢ 1 = λ e. omega (arith, four, e) in
-    absurd (c.in-Err.ensures.no_write (ap (λ (s : Stop). Err s) (at_write c.in-Err.stop (sym (c.tell.ensures.status other) ∙ four))))
-
-pub returns-in-Err-clause-part : goal.returns-in-Err-clause-part
-returns-in-Err-clause-part g c = λ four.
-    let other : c.tell.result ≢ 1 = λ e. omega (arith, four, e) in
-    absurd (c.in-Err.ensures.no_write (ap (λ (s : Stop). Err s) (at_write c.in-Err.stop (sym (c.tell.ensures.status other) ∙ four))))
-
-pub returns-in-Err-clause-whole : goal.returns-in-Err-clause-whole
-returns-in-Err-clause-whole g c = λ which. elim c.in-Err.ensures.steady [
-  | inl bad ↦ absurd (read_is_three c.in-Err.stop c.tell.result c.tell.ensures.status which bad)
+pub returns-clause-whole : goal.returns-clause-whole
+returns-clause-whole g c = λ which. elim c.audit_all.ensures.steady [
+  | inl bad ↦ absurd (let three = c.finish.ensures.failed bad in elim which [
+    | inl four ↦ omega (arith, four, three)
+    | inr high ↦ elim high [ inl seven ↦ omega (arith, seven, three) | inr eight ↦ omega (arith, eight, three) ]
+  ])
   | inr same ↦ same
 ]
 
-pub returns-in-Err-clause-unhindered : goal.returns-in-Err-clause-unhindered
-returns-in-Err-clause-unhindered g c = λ one. elim c.in-Err.ensures.steady [
-  | inl bad ↦ absurd (let three = c.tell.ensures.read (err_is c.in-Err.stop Read bad) in omega (arith, one, three))
+pub returns-clause-unhindered : goal.returns-clause-unhindered
+returns-clause-unhindered g c = λ one. elim c.audit_all.ensures.steady [
+  | inl bad ↦ absurd (let three = c.finish.ensures.failed bad in omega (arith, one, three))
   | inr same ↦ same
 ]
-
-pub returns-in-Err-clause-only : goal.returns-in-Err-clause-only
-returns-in-Err-clause-only g c = only_these c.in-Err.stop c.tell.result c.tell.ensures.status

@@ -2,8 +2,8 @@ use Rattle.std.proofs.Common.{◌≡◌, ◌+◌, Ok, true, false, inl, inr, [],
 use Rattle.std.proofs.lemmas.Grind.{common_steps}
 use Rattle.std.proofs.lemmas.Result.{err_from_is_err_and}
 use Rattle.line_input.specs.Taking.{Taken}
-use Rattle.witness_words.specs.declared.stops.Stop.TheVariants.{Input}
-use Rattle.witness_words.specs.Stops.{of_front}
+use Rattle.audit_input.specs.declared.stops.Stop.TheVariants.{Input}
+use Rattle.audit_input.specs.Stops.{of_front}
 use Rattle.witness_words.proofs.Judged.{all_taken, first_stands, no_front, one_refused, stands_more}
 use Rattle.witness_words.proofs.judging.judge_all.Goals as goal
 

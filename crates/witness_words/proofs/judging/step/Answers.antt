@@ -1,6 +1,6 @@
 use Rattle.std.proofs.Common.{◌≡◌}
 use Rattle.std.proofs.lemmas.Result.{err_from_is_err_and}
-use Rattle.witness_words.specs.declared.stops.Fault.TheVariants.{Line}
+use Rattle.audit_input.specs.declared.stops.Fault.TheVariants.{Line}
 use Rattle.witness_words.proofs.Steps.{input_ended, line_broken, line_refused, line_taken}
 use Rattle.witness_words.proofs.judging.step.Goals as goal
 

@@ -4,7 +4,7 @@ use Rattle.audit_defs.specs.Players.{setting_of}
 use Rattle.witness_defs.specs.Lines as reported
 use Rattle.witness_defs.specs.Lines.{evidence_in}
 use Rattle.witness_words.specs.Seen.{evidence}
-use Rattle.witness_words.specs.declared.stops.Fault.TheVariants.{Line, Evidence}
+use Rattle.audit_input.specs.declared.stops.Fault.TheVariants.{Line, Evidence}
 use Rattle.witness_words.proofs.Steps.{no_line, taken_line, untaken_line}
 use Rattle.witness_words.proofs.judging.take_line.Goals as goal
 

@@ -1,9 +1,9 @@
 use Rattle.std.proofs.Common.{◌≡◌, ◌∷◌, []}
 use Rattle.std.proofs.lemmas.Result.{err_from_is_err_and}
 use Rattle.audit_input.specs.Views.{input}
-use Rattle.witness_words.specs.declared.stops.Stop.TheVariants.{Input}
-use Rattle.witness_words.specs.Stops.{of_audit, of_front}
-use Rattle.witness_words.proofs.Reasons.{audit_reported, front_reported}
+use Rattle.audit_input.specs.declared.stops.Stop.TheVariants.{Input}
+use Rattle.audit_input.specs.Stops.{of_audit, of_front}
+use Rattle.audit_input.proofs.Reasons.{audit_reported, front_reported}
 use Rattle.witness_words.proofs.Proved.{all-proved}
 use Rattle.witness_words.proofs.proving.prove_all.Goals as goal
 

@@ -18,15 +18,15 @@ use Rattle.audit_defs.specs.Findings.{NoFindings, NoInput, Refused, audit_of, st
 use Rattle.audit_sources.specs.Faults as sources
 use Rattle.audit_sources.specs.declared.fault.AuditFault.{AuditFault}
 use Rattle.audit_sources.specs.declared.fault.AuditFault.TheVariants as audit_faults
-use Rattle.witness_words.specs.declared.stops.Fault.{Fault}
-use Rattle.witness_words.specs.declared.stops.Stop.TheVariants.{Input as Stopped}
-use Rattle.witness_words.specs.Stops.{fault_line, fault_status, of_audit, of_front, of_kit}
-use Rattle.witness_words.specs.Running.{Unread}
+use Rattle.audit_input.specs.declared.stops.Fault.{Fault}
+use Rattle.audit_input.specs.declared.stops.Stop.TheVariants.{Input as Stopped}
+use Rattle.audit_input.specs.Stops.{fault_line, fault_status, of_audit, of_front, of_kit}
+use Rattle.audit_input.specs.Unread.{Unread}
 
 abbrev Finds : Type 0
 Finds = Result Audited NoFindings
 
--- ---- behind what was read
+-- ---- after what was read
 
 -- of what is found
 abbrev reported : Result Audited audits.AuditFault → Finds

@@ -1,7 +1,8 @@
--- Why a run of `witness` stops, the status that it ends with, and the line that it writes.
-use Rattle.std.specs.Prelude.{ℕ, List, [], ◌∷◌, codes}
+-- Why a run over the input of an audit stops, or over a kit and lines of evidence, the status that it ends with, and the line that it writes.
+use Rattle.std.specs.Prelude.{◌≡◌, ℕ, List, [], ◌∷◌, Option, Result, IsErrOf, codes}
 use Rattle.std.specs.Fmt.{decimal}
 use Rattle.text_defs.specs.Words.{line_text}
+use Rattle.rp_base.specs.Streams.{WritesLine}
 use Rattle.line_input.specs.declared.faults.InputFault.{InputFault}
 use Rattle.line_input.specs.declared.faults.InputFault.TheVariants as inputs
 use Rattle.kit_reading.specs.declared.faults.KitFault.{KitFault}
@@ -10,10 +11,10 @@ use Rattle.kit_reading.specs.declared.fronts.FrontFault.{FrontFault}
 use Rattle.kit_reading.specs.declared.fronts.FrontFault.TheVariants as fronts
 use Rattle.audit_sources.specs.declared.fault.AuditFault.{AuditFault}
 use Rattle.audit_sources.specs.declared.fault.AuditFault.TheVariants as audit_faults
-use Rattle.witness_words.specs.declared.stops.Fault.{Fault}
-use Rattle.witness_words.specs.declared.stops.Fault.TheVariants.{Line, Repeated, Missing, KeyMismatch, Unhosted, Doubled, Journal, Evidence}
-use Rattle.witness_words.specs.declared.stops.Stop.{Stop}
-use Rattle.witness_words.specs.declared.stops.Stop.TheVariants.{NoMemory, Read, Write, Input}
+use Rattle.audit_input.specs.declared.stops.Fault.{Fault}
+use Rattle.audit_input.specs.declared.stops.Fault.TheVariants.{Line, Repeated, Missing, KeyMismatch, Unhosted, Doubled, Journal, Evidence}
+use Rattle.audit_input.specs.declared.stops.Stop.{Stop}
+use Rattle.audit_input.specs.declared.stops.Stop.TheVariants.{NoMemory, Read, Write, Input}
 
 -- what is reported of a fault after the status
 abbrev pub words_of : Fault → List (List ℕ)
@@ -46,6 +47,12 @@ line_of NoMemory = []
 line_of Read = codes "stop 3 read\n"
 line_of Write = []
 line_of (Input fault) = fault_line fault
+
+-- A run stops by a fault of the input that has this status, and the line of it was written and nothing else, or a prefix of it where the sink
+-- failed.
+abbrev pub StopsSo : {T : Type 0} → Result T Stop → ℕ → Option (List ℕ) → Option (List ℕ) → ℕ → ℕ → Type 0
+StopsSo made status old new faults faults_now =
+    (fault : Fault) × IsErrOf made (Input fault) × (fault_status fault ≡ status) × WritesLine (fault_line fault) old new faults faults_now
 
 -- ---- of what is called
 

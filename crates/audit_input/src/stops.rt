@@ -1,22 +1,21 @@
-//! Why an audit stops, and the line that says so.
+//! Why a run over the input of an audit stops, or over a kit and lines of evidence, and the line that says so.
 ghost use Rattle.std.specs.Prelude.{◌≡◌, ◌++◌, ◌∷◌, [], codes, IfOk, OnOk};
 ghost use Rattle.std.specs.Fmt.{decimal};
 ghost use Rattle.text_defs.specs.Words.{space, line_feed};
-ghost use Rattle.audit_defs.specs.Findings.{stop_line};
-ghost use Rattle.audit_words.specs.Stops.{of_audit, of_front, of_kit, status_of, why_of};
-ghost use Rattle.audit_words.specs.declared.stops.Stop.TheVariants as stops;
+ghost use Rattle.audit_input.specs.Stops.{fault_line, fault_status as status_in, of_audit, of_front, of_input, of_kit, status_of};
+ghost use Rattle.audit_input.specs.declared.stops.Stop.TheVariants as stops;
 
-use audit_core::AuditFault;
-use audit_input::{FrontFault, KitFault};
+use audit_sources::AuditFault;
+use kit_reading::{FrontFault, InputFault, KitFault};
 use rp_base::NoMemory;
 use std::alloc::Global;
 use text_codec::push_number;
 
-/// What of the input is in the way of findings. Lines are counted from 1, without the journals' bytes.
+/// What of the input is in the way. Lines are counted from 1, without the journals' bytes.
 #[derive(Clone, Copy)]
-pub(crate) enum Fault {
-    /// The line is none of a kit, or none that may come before a journal, or the input ends in it, before the line `go`, or within the
-    /// line's journal.
+pub enum Fault {
+    /// The line is none of a kit, or none that may come before a journal, or none of evidence, or the input ends in it, before the line
+    /// `go`, or within the line's journal.
     Line(usize),
 
     /// The line says what an earlier line of the kit says.
@@ -36,11 +35,14 @@ pub(crate) enum Fault {
 
     /// The journal of this index is refused at this byte.
     Journal { journal: usize, place: u64 },
+
+    /// The evidence in the line is not taken.
+    Evidence(usize),
 }
 
-/// Why an audit stops before its findings are written.
+/// Why a run stops before its work is done.
 #[derive(Clone, Copy)]
-pub(crate) enum Stop {
+pub enum Stop {
     /// No memory is left.
     NoMemory,
 
@@ -50,7 +52,7 @@ pub(crate) enum Stop {
     /// The output failed.
     Write,
 
-    /// The input has no findings.
+    /// The input has a fault.
     Input(Fault),
 }
 
@@ -82,6 +84,17 @@ impl From<FrontFault> for Stop {
         match fault {
             FrontFault::Read => Stop::Read,
             FrontFault::Kit(fault) => kit_stop(fault),
+        }
+    }
+}
+
+impl From<InputFault> for Stop {
+    ghost from_gives = { λ fault stop. stop ≡ of_input fault };
+
+    fn from(fault: InputFault) -> Stop {
+        match fault {
+            InputFault::Read => Stop::Read,
+            InputFault::NoMemory => Stop::NoMemory,
         }
     }
 }
@@ -140,7 +153,7 @@ fn journal_line(alloc: Global, journal: usize, place: u64) -> Result<Vec<u8>, No
 
 // The line of a fault of the input, but for its line feed.
 fn fault_line(alloc: Global, fault: Fault) -> Result<Vec<u8>, NoMemory>
-    ensures { IfOk result (λ text. text.items ++ line_feed ∷ [] ≡ stop_line (why_of fault)) }
+    ensures { IfOk result (λ text. text.items ++ line_feed ∷ [] ≡ fault_line fault) }
 {
     match fault {
         Fault::Line(line) => one_number(alloc, b"line", line as u64),
@@ -150,12 +163,13 @@ fn fault_line(alloc: Global, fault: Fault) -> Result<Vec<u8>, NoMemory>
         Fault::Unhosted(p) => one_number(alloc, b"unhosted", p.into()),
         Fault::Doubled(p) => one_number(alloc, b"doubled", p.into()),
         Fault::Journal { journal, place } => journal_line(alloc, journal, place),
+        Fault::Evidence(line) => one_number(alloc, b"evidence", line as u64),
     }
 }
 
 // The status of a fault of the input: 8 where a journal is refused.
 fn fault_status(fault: Fault) -> u8
-    ensures { result ≡ status_of (stops.Input fault) }
+    ensures { result ≡ status_in fault }
 {
     match fault {
         Fault::Journal { .. } => 8,
@@ -164,7 +178,8 @@ fn fault_status(fault: Fault) -> u8
         | Fault::Missing(_)
         | Fault::KeyMismatch(_)
         | Fault::Unhosted(_)
-        | Fault::Doubled(_) => 7,
+        | Fault::Doubled(_)
+        | Fault::Evidence(_) => 7,
     }
 }
 
@@ -172,9 +187,9 @@ impl Fault {
     /// The line that says so.
     ///
     /// # Errors
-    /// [`NoMemory`].
+    /// [`NoMemory`] where room for the line is refused.
     pub(crate) fn line(self, alloc: Global) -> Result<Vec<u8>, NoMemory>
-        ensures { IfOk result (λ text. text.items ≡ stop_line (why_of self)) }
+        ensures { IfOk result (λ text. text.items ≡ fault_line self) }
     {
         let mut text = fault_line(alloc, self)?;
         text.push(b'\n')?;
@@ -184,7 +199,7 @@ impl Fault {
 
 impl Stop {
     /// The status that the program ends with.
-    pub(crate) fn status(self) -> u8
+    pub fn status(self) -> u8
         ensures { result ≡ status_of self }
     {
         match self {
