@@ -146,7 +146,7 @@ fn add_tree_host(
 }
 
 // The secret of a tree with these parameters.
-fn tree(height: u8, ots: OtsType, id: [u8; 16], seed: [u8; 32]) -> Secret
+fn tree(height: u32, ots: OtsType, id: [u8; 16], seed: [u8; 32]) -> Secret
     ensures { secret result ≡ Lms height ots id seed }
 {
     Secret::Lms {
@@ -158,7 +158,7 @@ fn tree(height: u8, ots: OtsType, id: [u8; 16], seed: [u8; 32]) -> Secret
 }
 
 // The secret of this many levels of trees with these parameters.
-fn levels_of(levels: u8, height: u8, ots: OtsType, id: [u8; 16], seed: [u8; 32]) -> Secret
+fn levels_of(levels: u32, height: u32, ots: OtsType, id: [u8; 16], seed: [u8; 32]) -> Secret
     ensures { secret result ≡ Hss levels height ots id seed }
 {
     Secret::Hss {
