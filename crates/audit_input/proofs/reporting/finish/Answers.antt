@@ -1,4 +1,4 @@
-use Rattle.std.proofs.Common.{◌≢◌, Err, inl, inr, refl, sym, ap, subst, ◌∙◌, arith}
+use Rattle.std.proofs.Common.{◌≢◌, Err, sym, ap, subst, ◌∙◌, arith}
 use Rattle.std.specs.Io.KnownBytes.{Appends}
 use Rattle.rp_base.specs.Streams.{AppendsPrefix, WritesLine}
 use Rattle.audit_input.specs.declared.stops.Stop.{Stop}

@@ -4,38 +4,38 @@ use Rattle.witness_words.proofs.Lines.{convicted, convicted-in-part}
 use Rattle.witness_words.proofs.convicting.convict.Goals as goal
 
 pub returns-clause-convicted : goal.returns-clause-convicted
-returns-clause-convicted g c = λ zero. convicted c.args.listed _ _ _ _ c.convict_all.result c.convict_all.ensures.found (c.finish.ensures.done zero)
+returns-clause-convicted g c = λ zero. convicted c.args.listed _ _ _ _ c.convict_all-made.result c.convict_all-made.ensures.found (c.finish.ensures.done zero)
 
 pub returns-clause-part : goal.returns-clause-part
-returns-clause-part g c = λ four. convicted-in-part c.args.listed _ _ _ _ c.convict_all.result c.convict_all.ensures.found (c.finish.ensures.part four)
+returns-clause-part g c = λ four. convicted-in-part c.args.listed _ _ _ _ c.convict_all-made.result c.convict_all-made.ensures.found (c.finish.ensures.part four)
 
 pub returns-clause-stops : goal.returns-clause-stops
 returns-clause-stops g c = λ which.
-    unfound c.convict_all.result c.args.listed _ _ _ _ _ _ c.finish.result c.convict_all.ensures.refused (c.finish.ensures.stops which)
+    unfound c.convict_all-made.result c.args.listed _ _ _ _ _ _ c.finish.result c.convict_all-made.ensures.refused (c.finish.ensures.stops which)
 
 pub returns-clause-completes : goal.returns-clause-completes
 returns-clause-completes g c = λ some calm calm_sink.
-    completes c.convict_all.result c.args.listed _ _ _ _ _ _ c.finish.result c.convict_all.ensures.refused c.finish.ensures.only
-    (λ three. calm (c.convict_all.ensures.read (c.finish.ensures.read three))) c.finish.ensures.stops some
+    completes c.convict_all-made.result c.args.listed _ _ _ _ _ _ c.finish.result c.convict_all-made.ensures.refused c.finish.ensures.only
+    (λ three. calm (c.convict_all-made.ensures.read (c.finish.ensures.read three))) c.finish.ensures.stops some
     (λ four. calm_sink (c.finish.ensures.write four))
 
 pub returns-clause-refuses : goal.returns-clause-refuses
 returns-clause-refuses g c = λ status none calm.
-    refuses c.convict_all.result c.args.listed _ _ _ _ _ _ c.finish.result c.convict_all.ensures.refused c.finish.ensures.only
-    (λ three. calm (c.convict_all.ensures.read (c.finish.ensures.read three))) c.finish.ensures.stops status none
-    (λ zero. let a = (convicted c.args.listed _ _ _ _ c.convict_all.result c.convict_all.ensures.found (c.finish.ensures.done zero)).audits in
+    refuses c.convict_all-made.result c.args.listed _ _ _ _ _ _ c.finish.result c.convict_all-made.ensures.refused c.finish.ensures.only
+    (λ three. calm (c.convict_all-made.ensures.read (c.finish.ensures.read three))) c.finish.ensures.stops status none
+    (λ zero. let a = (convicted c.args.listed _ _ _ _ c.convict_all-made.result c.convict_all-made.ensures.found (c.finish.ensures.done zero)).audits in
     some_found c.args.listed _ _ a.audited a.all status none)
-    (λ four. let a = (convicted-in-part c.args.listed _ _ _ _ c.convict_all.result c.convict_all.ensures.found (c.finish.ensures.part four)).audits in
+    (λ four. let a = (convicted-in-part c.args.listed _ _ _ _ c.convict_all-made.result c.convict_all-made.ensures.found (c.finish.ensures.part four)).audits in
     some_found c.args.listed _ _ a.audited a.all status none)
 
 pub returns-clause-steady : goal.returns-clause-steady
-returns-clause-steady g c = λ zero. elim c.convict_all.ensures.steady [
+returns-clause-steady g c = λ zero. elim c.convict_all-made.ensures.steady [
   | inl bad ↦ absurd (let three = c.finish.ensures.failed bad in omega (arith, zero, three))
   | inr same ↦ (same, c.finish.ensures.steady zero)
 ]
 
 pub returns-clause-whole : goal.returns-clause-whole
-returns-clause-whole g c = λ which. elim c.convict_all.ensures.steady [
+returns-clause-whole g c = λ which. elim c.convict_all-made.ensures.steady [
   | inl bad ↦ absurd (let three = c.finish.ensures.failed bad in elim which [
     | inl four ↦ omega (arith, four, three)
     | inr high ↦ elim high [ inl seven ↦ omega (arith, seven, three) | inr eight ↦ omega (arith, eight, three) ]
