@@ -20,8 +20,8 @@ some-least t zero = (None, λ k from below. absurd (omega (arith, below)))
 some-least t (suc n) = more (some-least t n).0 (some-least t n).1 (t n) refl
   where
     more : (o : Option ℕ) → IsLeastBelow n t o → (b : Bool) → t n ≡ b → (o : Option ℕ) × IsLeastBelow (suc n) t o
-    more (Some k) least b e = (Some k, least.0, (let lt = least.1 in omega (arith, lt)), least.2, least.3)
-    more None none true e = (Some n, omega arith, omega arith, e, λ j from below. none j from below)
+    more (Some k) least b e = (Some k, (least.0, (let lt = least.1 in omega (arith, lt)), least.2, least.3))
+    more None none true e = (Some n, (omega arith, omega arith, e, λ j from below. none j from below))
     more None none false e = (None, λ k from below. last k from below (cases_order k n))
       where
         last : (k : ℕ) → 0 ≤ k → k < suc n → (k ≡ n) ⊎ ((k < n) ⊎ (n < k)) → t k ≡ false

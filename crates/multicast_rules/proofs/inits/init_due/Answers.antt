@@ -12,8 +12,8 @@ returns-in_err-own-clause-least c = λ s p tells accepted. rw c.from_residual.en
 
 pub returns-then-has_none-clause-least : goal.returns-then-has_none-clause-least
 returns-then-has_none-clause-least c = λ s p tells accepted.
-    none-has-payload s p c.args.pool.now.pool c.args.own.now c.in_ok-own.field-0 c.inits_below.result c.counts_of.result c.args.accepted
-    tells c.in_ok-own.was c.inits_below.ensures c.counts_of.ensures.member accepted (sym c.has_none.ensures ∙ c.if-has_none.true)
+    none-has-payload s p c.args.pool.now.pool c.args.own.now c.in_ok-own.field-0 c.inits_below-reached.result c.counts_of-delivered.result c.args.accepted
+    tells c.in_ok-own.was c.inits_below-reached.ensures c.counts_of-delivered.ensures.member accepted (sym c.has_none.ensures ∙ c.if-has_none.true)
 
 pub returns-in_err-number-clause-least : goal.returns-in_err-number-clause-least
 returns-in_err-number-clause-least c = λ s p tells accepted.
@@ -23,14 +23,14 @@ returns-in_err-number-clause-least c = λ s p tells accepted.
 
 pub returns-then-has_payload-clause-least : goal.returns-then-has_payload-clause-least
 returns-then-has_payload-clause-least c = λ s p tells accepted.
-    this-init-due s p c.args.pool.now.pool c.args.own.now c.in_ok-own.field-0 c.number.result c.in_ok-number.number c.counts_of.result
+    this-init-due s p c.args.pool.now.pool c.args.own.now c.in_ok-own.field-0 c.number.result c.in_ok-number.number c.counts_of-delivered.result
     c.args.accepted true
     (c.number.ensures.value ∙ ap (λ (v : View). v.number) c.view.ensures) tells c.in_ok-own.was c.in_ok-number.ensures
-    c.counts_of.ensures.member accepted c.if-has_payload.ensures
+    c.counts_of-delivered.ensures.member accepted c.if-has_payload.ensures
 
 pub returns-else-has_payload-clause-least : goal.returns-else-has_payload-clause-least
 returns-else-has_payload-clause-least c = λ s p tells accepted.
-    this-init-due s p c.args.pool.now.pool c.args.own.now c.in_ok-own.field-0 c.number.result c.in_ok-number.number c.counts_of.result
+    this-init-due s p c.args.pool.now.pool c.args.own.now c.in_ok-own.field-0 c.number.result c.in_ok-number.number c.counts_of-delivered.result
     c.args.accepted false
     (c.number.ensures.value ∙ ap (λ (v : View). v.number) c.view.ensures) tells c.in_ok-own.was c.in_ok-number.ensures
-    c.counts_of.ensures.member accepted c.if-has_payload.ensures
+    c.counts_of-delivered.ensures.member accepted c.if-has_payload.ensures

@@ -18,9 +18,9 @@ returns-then-own c = λ s p tells. ended s p c.args.pool.now.pool c.args.own.now
 pub returns-then-placed-reached : goal.returns-then-placed-reached
 returns-then-placed-reached c = λ s p tells.
     let le = c.if-placed-reached.true in
-    let many = c.placed_len.ensures in
-    all-kept s p c.args.pool.now.pool c.args.own.now c.in_ok-own.field-0 c.keeps_below.result tells c.in_ok-own.was c.if-own.false
-    c.keeps_below.ensures (omega (arith, le, many))
+    let many = c.placed_len-placed.ensures in
+    all-kept s p c.args.pool.now.pool c.args.own.now c.in_ok-own.field-0 c.keeps_below-reached.result tells c.in_ok-own.was c.if-own.false
+    c.keeps_below-reached.ensures (omega (arith, le, many))
 
 pub returns-in_err-place : goal.returns-in_err-place
 returns-in_err-place c = λ s p tells.
