@@ -1,4 +1,4 @@
-pub mod Hosts
+pub mod Below
 pub mod Among
 pub mod Laws
 pub mod Nothing

@@ -13,7 +13,7 @@ use Rattle.node_defs.specs.Casts.{Cast, cast_of, hosted_by, setting_of}
 use Rattle.node_defs.specs.Snapshots.{IsSnapshotFor, Snapshot}
 use Rattle.letter_laws.specs.Letters.{IsKeyed}
 use Rattle.node_service.specs.Hosts.{count_in, HasHosts, Counts, Hosts}
-use Rattle.node_service.proofs.Hosts.{all-here}
+use Rattle.node_service.proofs.Below.{all-here}
 use Rattle.pool_laws.proofs.Members.{Mem, list_any-mem}
 use Rattle.node_images.specs.declared.judged.Judged.{Judged}
 use Rattle.node_images.specs.Said.{ArePartsOf, Part, SnapSaid, no_image, part_of, snapshot_said}

@@ -4,7 +4,7 @@ use Rattle.image_defs.specs.Images.{process_of}
 use Rattle.node_defs.specs.Casts.{setting_of}
 use Rattle.sig_scheme.specs.Signers.{used}
 use Rattle.node_service.specs.Hosts.{IsCore, core_of, signer_of}
-use Rattle.node_service.proofs.Hosts.{me-so}
+use Rattle.node_service.proofs.Below.{me-so}
 use Rattle.node_images.specs.Real.{HasImage}
 use Rattle.restored_hosts.proofs.Going.{hosted-so}
 use Rattle.restored_hosts.proofs.again.go_on.Goals as goal
