@@ -5,7 +5,7 @@ ghost use Rattle.stmt_codec.specs.Views.{claim as claim_of};
 use claim_lists::{ClaimList, Conflicts};
 use rp_base::Pid;
 use std::process::Abort;
-use stmt_codec::{Claim, Statement, claim_len};
+use stmt_codec::{Claim, Statement, spelled_len};
 
 fn pid(n: u8) -> Pid
     requires { n < 64 }
@@ -49,7 +49,7 @@ fn other_at(conflicts: &Conflicts, place: usize) -> Option<u16> {
 fn put(rt: &impl Abort, list: &mut ClaimList, claim: &Claim<'_>)
     requires { IsClaim (claim_of claim.now) }
 {
-    let bytes = claim_len(&claim);
+    let bytes = spelled_len(&claim.statement) + claim.signature.len();
     list.reserve(1, bytes).expect(rt, "memory");
     list.push(claim);
 }
@@ -58,8 +58,8 @@ fn keep(rt: &impl Abort, conflicts: &mut Conflicts, heard: &Claim<'_>, other: &C
     requires heard { IsClaim (claim_of heard.now) }
     requires other { IsClaim (claim_of other.now) }
 {
-    let heard_bytes = claim_len(&heard);
-    let other_bytes = claim_len(&other);
+    let heard_bytes = spelled_len(&heard.statement) + heard.signature.len();
+    let other_bytes = spelled_len(&other.statement) + other.signature.len();
     conflicts
         .reserve(1, heard_bytes + other_bytes)
         .expect(rt, "memory");
