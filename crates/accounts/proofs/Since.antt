@@ -9,11 +9,11 @@ use Rattle.group_defs.specs.Process.{Delivered}
 use Rattle.group_defs.specs.Accounts.{Account}
 use Rattle.accounts.specs.declared.mark.AccountMark.{AccountMark}
 use Rattle.accounts.specs.Views.{perceived}
-use Rattle.accounts.specs.Marks.{TellsSince}
+use Rattle.accounts.specs.Marks.{GrewSince}
 
-module _ (m : AccountMark) (was now : Account) (is : TellsSince m was now) where
+module _ (m : AccountMark) (was now : Account) (is : GrewSince m was now) where
   -- more is accepted
-  pub more_accepted : (more : List (List ℕ)) → TellsSince m was (record now { accepted = now.accepted ++ more })
+  pub more_accepted : (more : List (List ℕ)) → GrewSince m was (record now { accepted = now.accepted ++ more })
   more_accepted more = record {
     number = is.number;
     views = is.views;
@@ -28,7 +28,7 @@ module _ (m : AccountMark) (was now : Account) (is : TellsSince m was now) where
   }
 
   -- more is delivered in the current view
-  pub more_delivered : (ds : List Delivered) → TellsSince m was (record now { delivered = is.before ++ (is.last ++ ds) ∷ [] })
+  pub more_delivered : (ds : List Delivered) → GrewSince m was (record now { delivered = is.before ++ (is.last ++ ds) ∷ [] })
   more_delivered ds = record {
     number = is.number;
     views = is.views;
@@ -43,7 +43,7 @@ module _ (m : AccountMark) (was now : Account) (is : TellsSince m was now) where
   }
 
   -- other updates are perceived, where the mark keeps those that were
-  pub others_perceived : IsSome m.perceived → (es : List (ℕ × Update)) → TellsSince m was (record now { perceived = es })
+  pub others_perceived : IsSome m.perceived → (es : List (ℕ × Update)) → GrewSince m was (record now { perceived = es })
   others_perceived some es = record {
     number = is.number;
     views = is.views;

@@ -8,7 +8,7 @@ use Rattle.accounts.specs.Views.{perceived}
 
 -- The account was `was` at the mark, and is `now` since then: in the current view more may be delivered, more may be accepted, and
 -- where the mark keeps what was perceived, that may have changed.
-pub record TellsSince (m : AccountMark) (was now : Account) : Type 0 where
+pub record GrewSince (m : AccountMark) (was now : Account) : Type 0 where
   pub number : now.me ≡ was.me
   pub views : now.views ≡ was.views
   pub before : List (List defs.Delivered)

@@ -3,7 +3,7 @@ ghost use Rattle.std.specs.Prelude.{◌≡◌, ◌-◌, ◌++◌, ◌∷◌, [],
 ghost use Rattle.group_defs.specs.Process as defs;
 ghost use Rattle.group_defs.specs.Accounts as plain;
 ghost use Rattle.accounts.specs.Views.{account, delivery};
-ghost use Rattle.accounts.specs.Marks.{TellsSince, without_last};
+ghost use Rattle.accounts.specs.Marks.{GrewSince, without_last};
 
 use crate::account::Account;
 use member_events::Delivered;
@@ -71,7 +71,7 @@ impl Account {
     pub fn mark(&self, asks: bool, mark: &mut AccountMark) -> Result<(), NoMemory>
         ensures tells { (before : List (List defs.Delivered)) (last : List defs.Delivered)
             → (account self.now).delivered ≡ before ++ last ∷ []
-            → OnOk result (TellsSince mark.new (account self.now) (account self.now)) }
+            → OnOk result (GrewSince mark.new (account self.now) (account self.now)) }
         ensures asks { asks ≡ true → OnOk result (IsSome mark.new.perceived) }
     {
         mark.delivered = count_last(&self.delivered);
@@ -82,7 +82,7 @@ impl Account {
 
     /// Goes back to what the account had at the mark. It takes no memory.
     pub fn rewind(&mut self, mark: &mut AccountMark)
-        ensures { (was : plain.Account) → TellsSince mark.old was (account self.old) → account self.new ≡ was }
+        ensures { (was : plain.Account) → GrewSince mark.old was (account self.old) → account self.new ≡ was }
     {
         cut_last(&mut self.delivered, mark.delivered);
         self.accepted.truncate(mark.accepted);

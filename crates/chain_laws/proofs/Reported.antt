@@ -13,7 +13,7 @@ use Rattle.chain_defs.specs.declared.ChainFault.{ChainFault}
 use Rattle.chain_defs.specs.Advance.{advance, views_shown}
 use Rattle.chain_text_defs.specs.Chains.{Answer, behind, chain_at, chain_from, chain_of, done, kit_words, proof_in, proof_words, setting_of, stopped, view_line}
 use Rattle.chain_laws.specs.Chains.{IsInstalled}
-use Rattle.chain_laws.specs.Reported.{AnswerTellsViews, IsEnd, IsQuoted, proofs_behind, proofs_in, views_behind}
+use Rattle.chain_laws.specs.Reported.{AnswersReportViews, IsEnd, IsQuoted, proofs_behind, proofs_in, views_behind}
 use Rattle.chain_laws.proofs.Agreeing.{chain_is_installed, chain_is_of_all, genesis_is_installed, genesis_is_of_all}
 
 -- the lines of these views, and an end
@@ -94,8 +94,8 @@ module _ (front : Front) (f : Family) (quoted : IsQuoted front f) where
       → slice_get (s.genesis ∷ views_shown s s.genesis proofs) (i + 1) ≡ Some b → IsInstalled f a) quoted.of_kit
       (λ i a b at next. chain_is_installed f f.setting.genesis proofs i a b quoted.premises (genesis_is_installed f some) quoted.own at next)
 
-pub answer_tells_views : AnswerTellsViews
-answer_tells_views bytes front e =
+pub answers_report_views : AnswersReportViews
+answers_report_views bytes front e =
     let s = setting_of front.kit in
     let reported = one-more s.genesis (chain_at s front.line s.genesis (parts_of front.rest)) (views_shown s s.genesis (proofs_behind front))
     (tells-at s front.line s.genesis (parts_of front.rest)) in

@@ -40,7 +40,7 @@ pub record IsQuoted (front : Front) (f : Family) : Type 0 where
 -- For bytes with a kit in front: the answer is the line of each view of the chain in order, and then at most the line of a stop. Each of
 -- these views is the one that every correct process with a view of its number has, and each but the last one was installed by a correct
 -- process, where there is one.
-pub record TellsViews (bytes : List ℕ) (front : Front) : Type 0 where
+pub record ReportsViews (bytes : List ℕ) (front : Front) : Type 0 where
   pub end : Answer
   pub ends : IsEnd end
   pub lines : chain_of bytes ≡ behind (flat_map view_line (views_behind front)) end
@@ -49,9 +49,9 @@ pub record TellsViews (bytes : List ℕ) (front : Front) : Type 0 where
       → slice_get (views_behind front) i ≡ Some a → slice_get (views_behind front) (i + 1) ≡ Some b → IsInstalled f a
 
 -- what the answer to bytes says, where they begin with a kit
-abbrev pub AnswerTells : List ℕ → Type 0
-AnswerTells bytes = (front : Front) → front_of bytes ≡ Ok front → TellsViews bytes front
+abbrev pub AnswerReports : List ℕ → Type 0
+AnswerReports bytes = (front : Front) → front_of bytes ≡ Ok front → ReportsViews bytes front
 
 -- this holds of any bytes
-abbrev pub AnswerTellsViews : Type 0
-AnswerTellsViews = (bytes : List ℕ) → AnswerTells bytes
+abbrev pub AnswersReportViews : Type 0
+AnswersReportViews = (bytes : List ℕ) → AnswerReports bytes

@@ -3,7 +3,7 @@
 
 ghost use Rattle.chain_laws.specs.Chains.{ChainIsInstalled, ChainIsOfAll, ChainsDoNotFork, GenesisIsInstalled, GenesisIsOfAll};
 ghost use Rattle.chain_laws.specs.Commits.{CommitShows};
-ghost use Rattle.chain_laws.specs.Reported.{AnswerTellsViews};
+ghost use Rattle.chain_laws.specs.Reported.{AnswersReportViews};
 
 /// A chain may begin with the genesis.
 pub fn genesis_is_of_all()
@@ -36,6 +36,6 @@ pub fn commit_shows()
 {}
 
 /// The answer to bytes that begin with a kit is the lines of the views of a chain, and at most one line more; these views are the group's.
-pub fn answer_tells_views()
-    ensures { AnswerTellsViews }
+pub fn answers_report_views()
+    ensures { AnswersReportViews }
 {}

@@ -2,10 +2,10 @@
 -- Names here (* for this crate alone):
 --   Account, account_of, delivered_in, messages_in, HasLeft, IsPrefixOf
 --   the group: Group, longest, group_of, history
---   the questions: corrupt_in, Bounded, AgreesWith, Agree, HasCause, of_sender, IsOnce, IsInOrder, at_place, batch_at, StandsByPlace,
+--   the questions: corrupt_in, Bounded, AgreesWith, Agree, HasCause, of_sender, IsOnce, IsInOrder, at_place, batch_at, IsByPlace,
 --     HaveSameBatches, ArePlaced, Sound
 --   the same, as the report computes them: bounded, same_views, same_sequence, agrees_in, agrees_with, agree, perceived_in, has_cause,
---     is_in_order, is_sound_in, is_accepted, same_deliveries*, stands_by_place, have_same_batches, are_placed_in, neighbours, sound
+--     is_in_order, is_sound_in, is_accepted, same_deliveries*, is_by_place, have_same_batches, are_placed_in, neighbours, sound
 --   the two ways say the same: BoundedIsTested, HasListOfEachView, AccountsHaveLists, AgreeIsTested, SoundIsTested
 use Rattle.std.specs.Prelude.{◌≡◌, ◌≢◌, ℕ, ◌+◌, min, ◌<◌, ◌≤◌, Bool, ◌&&◌, ◌||◌, not, nat_lt, nat_le, ◌==◌, List, [], ◌∷◌, ◌++◌, length, map, take, drop, filter, flat_map, count_by, if◌then◌else◌, IsTrue, ◌↔◌, All, AllPairs, Contains, Some, slice_get, slice_index_or}
 use Rattle.std.specs.List.{list_any, list_all, range_with_len}
@@ -120,7 +120,7 @@ abbrev pub batch_at : ℕ → List Delivered → Batch
 batch_at k ds = map (λ d. d.message) (at_place k ds)
 
 -- the places are 0, 1, 2 and so on: the list is what was delivered at each of them, one after the other, and at each 1 to 16 messages
-pub record StandsByPlace (ds : List Delivered) : Type 0 where
+pub record IsByPlace (ds : List Delivered) : Type 0 where
   pub together : flat_map (λ k. at_place k ds) (range_with_len 0 (places_in ds)) ≡ ds
   pub batches : (k : ℕ) → k < places_in ds → (1 ≤ length (at_place k ds)) × (length (at_place k ds) ≤ most_messages)
 
@@ -130,7 +130,7 @@ HaveSameBatches ds es = (k : ℕ) → k < places_in ds → k < places_in es → 
 
 -- what each process delivered in each view is in the order of the places, and any two delivered the same at a place
 pub record ArePlaced (accounts : List Account) : Type 0 where
-  pub by_place : All (λ a. (x : ℕ) → StandsByPlace (delivered_in a x)) accounts
+  pub by_place : All (λ a. (x : ℕ) → IsByPlace (delivered_in a x)) accounts
   pub same : All (λ a. All (λ b. (x : ℕ) → HaveSameBatches (delivered_in a x) (delivered_in b x)) accounts) accounts
 
 -- each view has a cause in the one before; in a sequence no message occurs twice, and the numbers of each sender are 0, 1, 2 and so on;
@@ -206,9 +206,9 @@ is_accepted g a =
 abbrev pub same_deliveries : List Delivered → List Delivered → Bool
 same_deliveries = pointwise (λ d e. is_yes (Delivered-discrete d e))
 
--- as `StandsByPlace`
-abbrev pub stands_by_place : List Delivered → Bool
-stands_by_place ds =
+-- as `IsByPlace`
+abbrev pub is_by_place : List Delivered → Bool
+is_by_place ds =
     same_deliveries (flat_map (λ k. at_place k ds) (range_with_len 0 (places_in ds))) ds
     && list_all (λ k. nat_le 1 (length (at_place k ds)) && nat_le (length (at_place k ds)) most_messages) (range_with_len 0 (places_in ds))
 
@@ -220,7 +220,7 @@ have_same_batches ds es = list_all (λ k. is_yes (Batch-discrete (batch_at k ds)
 -- as `ArePlaced`, in the view of this number
 abbrev pub are_placed_in : List Account → ℕ → Bool
 are_placed_in accounts x =
-    list_all (λ a. stands_by_place (delivered_in a x)) accounts
+    list_all (λ a. is_by_place (delivered_in a x)) accounts
     && list_all (λ a. list_all (λ b. have_same_batches (delivered_in a x) (delivered_in b x)) accounts) accounts
 
 -- each element with the one after it

@@ -2,13 +2,13 @@
 -- Names here (* for this crate alone):
 --   of one signed list: SignsAt, EachRun*, OnePerSlot, KeepsBeforeEnd, ReportsReady, ReadyBeforeLast, HasGrown, IsFrom, WasDue,
 --     EachWasDue, SignsItsKinds, OrdersWithinLimit, IsOfView, HeardIsOfView, DeliversIn, MembersDeliver, IsBehind, AreInARow,
---     ViewsInARow, DecisionStands
+--     ViewsInARow, DecisionIsCertified
 --   of one heard list: what a deputy chooses: IsChoice, DeputyAdopts, DeputyChooses
 --   of a family: QuorumsMeet, Premises, settlings_from, settlings, SettledSo, StoodSo, SettledStood, EndStood*, IsViewOfAll, may_back,
 --     IsBacked, IsOneView, InstalledIsView, InstalledIsOne, CertifiedIsBacked, OneContent, ReadyFixesValue, AckedWasFree, KeptBelowCut,
 --     Decides, OneDecision, DeliversWithinCut, NobodyHalts, AgreeUpTo, AllAgreeUpTo, AgreeGoesOn
 --   the theorems: Agreement, CauseAndOrder
---   growth: of a schedule's first events each process has taken its first turns: StandsBefore, IsFrontOf, GrowsTo*, Growth,
+--   growth: of a schedule's first events each process has taken its first turns: IsEarlier, IsFrontOf, GrowsTo*, Growth,
 --     LawsOfViewThen, HoldsAtTheCut*, AtTheCut
 --   local agreement: NoConflict, OnePayload, OnePayloadAtTheEnd, OneBatch, OneSequence
 use Rattle.std.specs.Prelude.{◌≡◌, ◌≢◌, ◌⊎◌, ℕ, ◌+◌, ◌<◌, ◌≤◌, Bool, false, not, ◌&&◌, ◌||◌, ◌==◌, List, [], ◌∷◌, ◌++◌, length, count_by, is_some, IsTrue, IsFalse, All, AllPairs, Contains, Option, Some, None, Ok, slice_get}
@@ -125,8 +125,8 @@ abbrev pub ViewsInARow : Type 0
 ViewsInARow = EachRun (λ s me turns p. AreInARow s (views_of p))
 
 -- where a process has decided, the Ready that gave the decision is certified
-abbrev pub DecisionStands : Type 0
-DecisionStands = EachRun (λ s me turns p. (d : ℕ × Value) → p.decision ≡ Some d
+abbrev pub DecisionIsCertified : Type 0
+DecisionIsCertified = EachRun (λ s me turns p. (d : ℕ × Value) → p.decision ≡ Some d
     → IsTrue (is_certified p.pool (Ready p.pool.view.number d.0 d.1)))
 
 -- ---- of one heard list: what a deputy chooses
@@ -297,13 +297,13 @@ CauseAndOrder = (f : Family) → Premises f → Sound (accounts f) (keyed f.sett
 -- ---- growth: of a schedule's first events each process has taken its first turns
 
 -- the same process, earlier: it has taken the first of its turns
-abbrev pub StandsBefore : Correct → Correct → Type 0
-StandsBefore early late = (early.me ≡ late.me) × (early.batch_limit ≡ late.batch_limit) × IsPrefixOf early.turns late.turns
+abbrev pub IsEarlier : Correct → Correct → Type 0
+IsEarlier early late = (early.me ≡ late.me) × (early.batch_limit ≡ late.batch_limit) × IsPrefixOf early.turns late.turns
 
 -- the same setting and processes, at an earlier moment
 pub record IsFrontOf (early late : Family) : Type 0 where
   pub setting : early.setting ≡ late.setting
-  pub fronts : AllZip StandsBefore early.correct late.correct
+  pub fronts : AllZip IsEarlier early.correct late.correct
 
 -- views and sequences only grow, and a sequence is whole once some member has left its view
 pub record GrowsTo (early late : List Account) : Type 0 where

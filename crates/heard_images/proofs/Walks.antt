@@ -10,7 +10,7 @@ use Rattle.byte_defs.specs.Equality.{is_yes, bytes_discrete}
 use Rattle.message_defs.specs.Statements.{Message, Batch}
 use Rattle.group_defs.specs.Process.{Pool, Delivered, places_in}
 use Rattle.group_defs.specs.Certified.{payload_at, place_at}
-use Rattle.group_defs.specs.Accounts.{StandsByPlace, at_place, batch_at}
+use Rattle.group_defs.specs.Accounts.{IsByPlace, at_place, batch_at}
 use Rattle.pool_laws.proofs.Members.{Mem, append-mem, filter-mem, tested-all, all-tested}
 use Rattle.pool_laws.proofs.Tests.{and-first, and-second, both-true, is-yes, none-some, some-and, some-same, yes-is}
 use Rattle.heard_images.specs.Walks.{is_delivered, after_batch, after_place, after_places, is_paid}
@@ -156,7 +156,7 @@ module _ (h : Pool) where
   IsPlaced ds = (k : ℕ) → k < places_in ds → place_at h k ≡ Some (batch_at k ds)
 
   -- the walk ends with nothing left exactly where each place is placed
-  pub walk-is : (ds : List Delivered) → StandsByPlace ds → (after_places h (places_in ds) 0 ds ≡ Some []) ↔ IsPlaced ds
+  pub walk-is : (ds : List Delivered) → IsByPlace ds → (after_places h (places_in ds) 0 ds ≡ Some []) ↔ IsPlaced ds
   walk-is ds by = (
     λ e k lt. (walk-placed (places_in ds) 0 ds e).each k (omega arith) (omega (arith, lt)),
     λ placed. subst (λ es. after_places h (places_in ds) 0 es ≡ Some []) by.together
@@ -167,7 +167,7 @@ module _ (h : Pool) where
   map-none f [] e = refl
   map-none f (x ∷ xs) e = absurd cc
 
-  module _ (ds : List Delivered) (by : StandsByPlace ds) (n : ℕ) (many : n ≡ places_in ds) where
+  module _ (ds : List Delivered) (by : IsByPlace ds) (n : ℕ) (many : n ≡ places_in ds) where
     pub left-is : {X : Type 0} (f : X → Delivered) (left : List X) (b : Bool) → Some (map f left) ≡ after_places h n 0 ds
         → (b ≡ true → left ≡ []) → (left ≡ [] → b ≡ true) → IsTrue b ↔ IsPlaced ds
     left-is f left b at there back = (

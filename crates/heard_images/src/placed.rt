@@ -4,7 +4,7 @@ ghost use Rattle.std.specs.List.{list_all};
 ghost use Rattle.std.specs.Option.{option_map};
 ghost use Rattle.group_defs.specs.Process.{places_in};
 ghost use Rattle.group_defs.specs.Certified.{payload_at, place_at};
-ghost use Rattle.group_defs.specs.Accounts.{StandsByPlace, batch_at};
+ghost use Rattle.group_defs.specs.Accounts.{IsByPlace, batch_at};
 ghost use Rattle.member_events.specs.Below.{message_of};
 ghost use Rattle.snapshot_rp.specs.Views.{delivered as plain};
 ghost use Rattle.heard_images.specs.Walks as tests;
@@ -79,7 +79,7 @@ fn after_places<'a>(pool: &Pool, delivered: &'a [Delivered], places: u16) -> Opt
 /// Whether at each place where messages were delivered the pool certifies their batch. The deliveries are in the order of places, and
 /// `places` is how many there are.
 pub fn are_placed(pool: &Pool, delivered: &[Delivered], places: u16) -> bool
-    ensures { StandsByPlace (map plain delivered.now) → places ≡ places_in (map plain delivered.now)
+    ensures { IsByPlace (map plain delivered.now) → places ≡ places_in (map plain delivered.now)
         → IsTrue result ↔ ((k : ℕ) → k < places_in (map plain delivered.now)
         → place_at pool.now.pool k ≡ Some (batch_at k (map plain delivered.now))) }
 {

@@ -6,7 +6,7 @@ use Rattle.group_defs.specs.Views.{View, is_member, quorum, is_possible, next_vi
 use Rattle.group_defs.specs.Process.{Setting, Pool, Delivered, Left, Process, keyed, earlier, delivered_from, places_in}
 use Rattle.group_defs.specs.Certified.{certificate, is_certified, heard_on, payload_at, place_at}
 use Rattle.group_defs.specs.Hearing.{is_valid, is_strange, is_beyond}
-use Rattle.group_defs.specs.Accounts.{StandsByPlace, batch_at}
+use Rattle.group_defs.specs.Accounts.{IsByPlace, batch_at}
 use Rattle.image_defs.specs.Images.{LeftView, Image, process_of}
 
 -- 1. how the views were left, from this one on
@@ -68,7 +68,7 @@ pub record IsKeptProcess (s : Setting) (i : Image) (p : Process) : Type 0 where
   pub signed_once : AllPairs (λ c d. slot_of c.statement ≢ slot_of d.statement) p.signed
   pub heard_own : All (λ c. view_of c.statement ≡ p.pool.view.number → IsTrue (is_some (heard_on p.pool p.me (slot_of c.statement)))) p.signed
   -- 4
-  pub by_place : All StandsByPlace i.delivered
+  pub by_place : All IsByPlace i.delivered
   pub few_places : All (λ ds. places_in ds ≤ most_places) i.delivered
   pub outside : IsFalse (is_member p.pool.view p.me) → p.delivered ≡ []
   pub placed : (k : ℕ) → k < places_in p.delivered → place_at p.pool k ≡ Some (batch_at k p.delivered)

@@ -17,7 +17,7 @@ use Rattle.image_laws.proofs.Restoring.{process_is_restored}
 use Rattle.image_laws.proofs.Leaving.{left_is_kept}
 use Rattle.image_laws.proofs.Placing.{all-deliveries, nothing-stands}
 use Rattle.message_defs.specs.Limits.{most_places}
-use Rattle.group_defs.specs.Accounts.{StandsByPlace}
+use Rattle.group_defs.specs.Accounts.{IsByPlace}
 use Rattle.image_laws.proofs.BySigner.{Others, each-by_signer, signers-up, up-pairs}
 use Rattle.pool_laws.proofs.Places.{all-pairs, pairs-all}
 use Rattle.image_laws.proofs.Hearing.{IsPair, heard_is_kept, heard-is, heard-was, is-heard, moved, moved-before, was-heard}
@@ -100,7 +100,7 @@ starts-fit s me limit view = record {
   };
   signed = record { own = none-of _; once = λ i j d lt far. absurd (omega (arith, far)); heard_own = none-of _ };
   placed = record {
-    by_place = all-deliveries StandsByPlace (start s me limit) (λ l m. absurd m) nothing-stands.0;
+    by_place = all-deliveries IsByPlace (start s me limit) (λ l m. absurd m) nothing-stands.0;
     few_places = all-deliveries (λ ds. places_in ds ≤ most_places) (start s me limit) (λ l m. absurd m) nothing-stands.1;
     outside = λ e. refl;
     placed = λ k lt. absurd (omega (arith, lt));

@@ -13,7 +13,7 @@ use Rattle.group_defs.specs.Certified.{claim_on, heard_on, certified_on, place_a
 use Rattle.group_defs.specs.Due.{may_sign, is_batch}
 use Rattle.group_defs.specs.Settle.{deliverable, delivery}
 use Rattle.group_defs.specs.Signing.{Signer, signs, own_claim}
-use Rattle.group_defs.specs.Accounts.{StandsByPlace, at_place, batch_at}
+use Rattle.group_defs.specs.Accounts.{IsByPlace, at_place, batch_at}
 use Rattle.group_defs.specs.Family.{claims_in}
 use Rattle.group_defs.specs.Events.{after}
 use Rattle.pool_laws.proofs.Grown.{certified-stays}
@@ -29,7 +29,7 @@ use Rattle.image_laws.proofs.Hearing.{passed-more}
 -- ---- of a process
 
 abbrev pub FitsPlaces : List Delivered → Type 0
-FitsPlaces ds = StandsByPlace ds × (places_in ds ≤ most_places)
+FitsPlaces ds = IsByPlace ds × (places_in ds ≤ most_places)
 
 record Placed (p : Process) : Type 0 where
   pub lefts : (l : Left) → Mem l p.left → FitsPlaces l.delivered
@@ -311,8 +311,8 @@ placed_is_kept s p t handed fits =
     = (λ l m. mem-append (map (λ (l : Left). l.delivered) p.left) (p.delivered ∷ []) l.delivered (mem-map (λ (l : Left). l.delivered) p.left l m)) in
     let here : Mem p.delivered (deliveries_of p) = mem-behind (map (λ (l : Left). l.delivered) p.left) (p.delivered ∷ []) p.delivered (inl refl) in
     let was : Placed p = record {
-      lefts = λ l m. (of StandsByPlace fits.by_place l.delivered (lefts l m), of (λ ds. places_in ds ≤ most_places) fits.few_places l.delivered (lefts l m));
-      here = (of StandsByPlace fits.by_place p.delivered here, of (λ ds. places_in ds ≤ most_places) fits.few_places p.delivered here);
+      lefts = λ l m. (of IsByPlace fits.by_place l.delivered (lefts l m), of (λ ds. places_in ds ≤ most_places) fits.few_places l.delivered (lefts l m));
+      here = (of IsByPlace fits.by_place p.delivered here, of (λ ds. places_in ds ≤ most_places) fits.few_places p.delivered here);
       outside = fits.outside;
       placed = fits.placed;
       paid = λ d m. All-mem (λ (d : Delivered). payload_at p.pool d.message ≡ Some d.payload) p.delivered d fits.paid m;
@@ -322,7 +322,7 @@ placed_is_kept s p t handed fits =
     (keeps-placed s (claims_in t.event) (λ c m. All-mem (λ (c : Claim). InRange c.statement) (claims_in t.event) c handed m)) t
     (unfold AreFrom in λ c m. m) p was in
     record {
-      by_place = all-deliveries StandsByPlace (after s p t) (λ l m. (now.lefts l m).0) now.here.0;
+      by_place = all-deliveries IsByPlace (after s p t) (λ l m. (now.lefts l m).0) now.here.0;
       few_places = all-deliveries (λ ds. places_in ds ≤ most_places) (after s p t) (λ l m. (now.lefts l m).1) now.here.1;
       outside = now.outside;
       placed = now.placed;

@@ -9,7 +9,7 @@ use Rattle.message_defs.specs.Updates.{Value}
 use Rattle.message_defs.specs.Statements.{Statement, Order, Place, Ready, Conflicts, slot_of, view_of}
 use Rattle.group_defs.specs.Views.{IsView, is_member, is_possible}
 use Rattle.group_defs.specs.Process.{Setting, Process, keyed, deliveries_of, earlier, delivered_from, places_in}
-use Rattle.group_defs.specs.Accounts.{StandsByPlace, batch_at}
+use Rattle.group_defs.specs.Accounts.{IsByPlace, batch_at}
 use Rattle.group_defs.specs.Family.{claims_in}
 use Rattle.group_defs.specs.Certified.{is_certified, heard_on, payload_at, place_at}
 use Rattle.group_defs.specs.Hearing.{is_valid}
@@ -51,7 +51,7 @@ InRange _ = Unit {0}
 -- 4. What was delivered in each view is by place, at most 1,024 of them; an outsider has delivered nothing in the current view, and what
 -- a member has is the batch that each place gives, with the payloads of its messages. All of this of statements in range.
 pub record PlacedFits (p : Process) : Type 0 where
-  pub by_place : All StandsByPlace (deliveries_of p)
+  pub by_place : All IsByPlace (deliveries_of p)
   pub few_places : All (λ ds. places_in ds ≤ most_places) (deliveries_of p)
   pub outside : IsFalse (is_member p.pool.view p.me) → p.delivered ≡ []
   pub placed : (k : ℕ) → k < places_in p.delivered → place_at p.pool k ≡ Some (batch_at k p.delivered)

@@ -4,7 +4,7 @@ use Rattle.std.specs.List.{flat_map}
 use Rattle.std.proofs.lemmas.Grind.{flat_map-append}
 use Rattle.std.proofs.lemmas.List.{append-nil, length-take-le, take-append-drop}
 use Rattle.journal_defs.specs.Entries.{Entry}
-use Rattle.journal_defs.specs.Journals.{HasEntryAt, StandsBefore, up_to_gate}
+use Rattle.journal_defs.specs.Journals.{HasEntryAt, LieBefore, up_to_gate}
 use Rattle.journal_defs.proofs.Gates.{entry_goes_on}
 use Rattle.interop_node.specs.Journals.{entry_words, header_of}
 
@@ -13,7 +13,7 @@ reported es = flat_map entry_words es
 
 -- no entry stands before the first gate, and none was told
 pub starts : (bytes out : List ℕ) → 60 < length bytes
-    → (es : List Entry) × StandsBefore (header_of bytes) bytes es 60 × (out ≡ out ++ reported es)
+    → (es : List Entry) × LieBefore (header_of bytes) bytes es 60 × (out ≡ out ++ reported es)
 starts bytes out long = (
   [],
   record {
@@ -27,7 +27,7 @@ starts bytes out long = (
 )
 
 -- entries stand before a place that has a byte
-pub within : (head bytes : List ℕ) (es : List Entry) (place : ℕ) → StandsBefore head bytes es place → place < length bytes
+pub within : (head bytes : List ℕ) (es : List Entry) (place : ℕ) → LieBefore head bytes es place → place < length bytes
 within head bytes es place s = omega (arith, s.where_it_is, s.goes_on, ap length s.parts, length-append (up_to_gate head es) s.rest)
 
 -- the next gate stands behind this one
@@ -37,9 +37,9 @@ goes_less bytes place e next less h = omega (arith, less, h.next_is)
 
 module _ (head bytes : List ℕ) (place next : ℕ) (e : Entry) (first before after : List ℕ) where
   -- one entry more was told
-  pub next_reported : (before_it : (es : List Entry) × StandsBefore head bytes es place × (before ≡ first ++ reported es))
+  pub next_reported : (before_it : (es : List Entry) × LieBefore head bytes es place × (before ≡ first ++ reported es))
       → HasEntryAt bytes place e next → after ≡ before ++ entry_words e
-      → (es : List Entry) × StandsBefore head bytes es next × (after ≡ first ++ reported es)
+      → (es : List Entry) × LieBefore head bytes es next × (after ≡ first ++ reported es)
   next_reported b h is =
       let es = b.0 in
       let one : reported (es ++ e ∷ []) ≡ reported es

@@ -5,15 +5,15 @@ use Rattle.std.proofs.lemmas.Grind.{flat_map-append}
 use Rattle.std.proofs.lemmas.List.{drop_at}
 use Rattle.byte_defs.proofs.Fields.{ok_is}
 use Rattle.journal_defs.specs.Entries.{Entry, IsEntry, Reading}
-use Rattle.journal_defs.specs.Journals.{open_gate, behind_gate, record_bytes, record_at, up_to_gate, StandsBefore, EntryGoesOn, ClosedGateEnds, BrokenGateBreaks, EntryIsThere, GateIsThere, OneEntry}
+use Rattle.journal_defs.specs.Journals.{open_gate, behind_gate, record_bytes, record_at, up_to_gate, LieBefore, EntryGoesOn, ClosedGateEnds, BrokenGateBreaks, EntryIsThere, GateIsThere, OneEntry}
 use Rattle.journal_defs.proofs.Recording.{record_is_read}
 use Rattle.journal_defs.proofs.Crashing.{one_more, each_push, next_place}
 
 -- from the place on
-from_place : (head bytes : List ℕ) (es : List Entry) (place : ℕ) (s : StandsBefore head bytes es place) → drop place bytes ≡ s.rest
+from_place : (head bytes : List ℕ) (es : List Entry) (place : ℕ) (s : LieBefore head bytes es place) → drop place bytes ≡ s.rest
 from_place head bytes es place s = ap (λ (l : List ℕ). drop place l) s.parts ∙ drop_at (up_to_gate head es) s.rest place (sym s.where_it_is)
 
-behind_them : (head bytes : List ℕ) (es : List Entry) (place : ℕ) (l : List ℕ) → StandsBefore head bytes es place → drop place bytes ≡ l
+behind_them : (head bytes : List ℕ) (es : List Entry) (place : ℕ) (l : List ℕ) → LieBefore head bytes es place → drop place bytes ≡ l
     → bytes ≡ up_to_gate head es ++ l
 behind_them head bytes es place l s is = s.parts ∙ ap (λ (r : List ℕ). up_to_gate head es ++ r)
     (sym (from_place head bytes es place s) ∙ is)

@@ -2,7 +2,7 @@
 -- Names here (* for this crate alone):
 --   magic, batch_limit, Header, behind_magic, header_bytes
 --   records: open_gate, closed_gate, behind_gate, record_bytes, up_to_gate, ReadsAs, BreaksAt
---   what is at a gate: IsClosedAt, HasEntryAt, IsBrokenAt, StandsBefore
+--   what is at a gate: IsClosedAt, HasEntryAt, IsBrokenAt, LieBefore
 --   how a record is read after an open gate: record_at
 --   the laws: RecordIsSpelled*, RecordIsRead*, EntryGoesOn*, ClosedGateEnds*, BrokenGateBreaks*, EntryIsThere*, GateIsThere*, OneEntry*,
 --     OneReading*, MarkedAgain*
@@ -102,7 +102,7 @@ pub record IsBrokenAt (bytes : List ℕ) (place : ℕ) : Type 0 where
   pub no_entry : (e : Entry) (gate : ℕ) (more : List ℕ) → IsEntry e → behind ≡ behind_gate e ++ gate ∷ more → ⊥
 
 -- these entries lie before this place, at which the bytes go on
-pub record StandsBefore (head bytes : List ℕ) (es : List Entry) (place : ℕ) : Type 0 where
+pub record LieBefore (head bytes : List ℕ) (es : List Entry) (place : ℕ) : Type 0 where
   pub rest : List ℕ
   pub parts : bytes ≡ up_to_gate head es ++ rest
   pub goes_on : 1 ≤ length rest
@@ -133,17 +133,17 @@ RecordIsRead = (e : Entry) (rest : List ℕ) → IsEntry e → 1 ≤ length rest
 
 -- where entries lie before a place and e is at it, the entries and then e lie before the gate after e
 abbrev pub EntryGoesOn : Type 0
-EntryGoesOn = (head bytes : List ℕ) (es : List Entry) (place : ℕ) (e : Entry) (next : ℕ) → StandsBefore head bytes es place
-    → HasEntryAt bytes place e next → StandsBefore head bytes (es ++ e ∷ []) next
+EntryGoesOn = (head bytes : List ℕ) (es : List Entry) (place : ℕ) (e : Entry) (next : ℕ) → LieBefore head bytes es place
+    → HasEntryAt bytes place e next → LieBefore head bytes (es ++ e ∷ []) next
 
 -- where entries lie before a place and the gate there is closed, the bytes read as the entries
 abbrev pub ClosedGateEnds : Type 0
-ClosedGateEnds = (head bytes : List ℕ) (es : List Entry) (place : ℕ) → StandsBefore head bytes es place → IsClosedAt bytes place
+ClosedGateEnds = (head bytes : List ℕ) (es : List Entry) (place : ℕ) → LieBefore head bytes es place → IsClosedAt bytes place
     → ReadsAs head bytes es
 
 -- where the gate after the entries is open and no whole entry and next gate follow it, the reading breaks at that gate
 abbrev pub BrokenGateBreaks : Type 0
-BrokenGateBreaks = (head bytes : List ℕ) (es : List Entry) (place : ℕ) → StandsBefore head bytes es place → IsBrokenAt bytes place
+BrokenGateBreaks = (head bytes : List ℕ) (es : List Entry) (place : ℕ) → LieBefore head bytes es place → IsBrokenAt bytes place
     → BreaksAt head bytes place
 
 -- bytes that read as entries have each of them at its place
@@ -166,5 +166,5 @@ OneReading = (head bytes : List ℕ) (es fs : List Entry) → ReadsAs head bytes
 -- Where the bytes before a place are those that were marked there, and the bytes go on at it, the entries lie before it that lay before
 -- it when it was marked.
 abbrev pub MarkedAgain : Type 0
-MarkedAgain = (head marked bytes : List ℕ) (es : List Entry) (place : ℕ) → StandsBefore head marked es place
-    → take place bytes ≡ take place marked → place < length bytes → StandsBefore head bytes es place
+MarkedAgain = (head marked bytes : List ℕ) (es : List Entry) (place : ℕ) → LieBefore head marked es place
+    → take place bytes ≡ take place marked → place < length bytes → LieBefore head bytes es place

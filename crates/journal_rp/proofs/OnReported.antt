@@ -4,7 +4,7 @@ use Rattle.std.specs.Option.{IfSome, IsSomeAnd}
 use Rattle.std.proofs.lemmas.List.{take_at, append-nil}
 use Rattle.journal_defs.specs.declared.Version.{Version}
 use Rattle.journal_defs.specs.declared.Version.TheVariants.{One, Two}
-use Rattle.journal_defs.specs.Journals.{Header, header_bytes, StandsBefore}
+use Rattle.journal_defs.specs.Journals.{Header, header_bytes, LieBefore}
 use Rattle.journal_disk.specs.Disks.{BeginsAt, HasLength}
 use Rattle.journal_rp.specs.Headers.{IsJournal, of_kind}
 
@@ -41,7 +41,7 @@ module _ (h : Header) (one two : List ℕ) (one_is : one ≡ header_bytes One h)
 
   -- no entry stands before its first gate
   pub first_there : (seen : Option (List ℕ)) (v : Version) → IfSome seen (IsJournal v h)
-      → IfSome seen (λ file. StandsBefore (header_bytes v h) file [] 60)
+      → IfSome seen (λ file. LieBefore (header_bytes v h) file [] 60)
   first_there None v j = tt
   first_there (Some file) v j = record {
     rest = j.rest;

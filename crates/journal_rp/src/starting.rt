@@ -1,6 +1,6 @@
 ghost use Rattle.std.specs.Prelude.{◌≡◌, ◌≢◌, [], ℕ, List, IfOk, IfSome, OnOk};
 ghost use Rattle.std.specs.Option.{IsSomeAnd};
-ghost use Rattle.journal_defs.specs.Journals.{header_bytes, StandsBefore};
+ghost use Rattle.journal_defs.specs.Journals.{header_bytes, LieBefore};
 ghost use Rattle.journal_defs.specs.declared.Version.{Version as Kind};
 ghost use Rattle.journal_defs.specs.declared.Version.TheVariants.{Two};
 ghost use Rattle.journal_disk.specs.Disks.{HasRest, HasLength, OnlyReads, StaysUntold};
@@ -50,7 +50,7 @@ fn opened<D: Disk>(
     requires { HasLength (D.seen disk.old) len }
     ensures found { IfOk result (λ j. IfSome (D.seen disk.old) (IsJournal (version_in j) (header_of header.now))) }
     ensures first { IfOk result (λ j. IfSome (D.seen disk.old)
-        (λ file. StandsBefore (header_bytes (version_in j) (header_of header.now)) file [] (gate_of j))) }
+        (λ file. LieBefore (header_bytes (version_in j) (header_of header.now)) file [] (gate_of j))) }
     ensures refused { IfNotAJournal result (IfSome (D.seen disk.old) (λ file. (v : Kind) → ¬ IsJournal v (header_of header.now) file)) }
     ensures gate { IfOk result (λ j. gate_of j ≡ 60) }
     ensures length { IfOk result (λ j. HasLength (D.seen disk.new) (len_of j)) }
@@ -88,7 +88,7 @@ impl Journal<Reading> {
         ensures found { IfOk result (λ j. IfSome (D.seen disk.old)
             (λ file. file ≢ [] → IsJournal (version_in j) (header_of header.now) file)) }
         ensures first { IfOk result (λ j. IfSome (D.seen disk.old)
-            (λ file. file ≢ [] → StandsBefore (header_bytes (version_in j) (header_of header.now)) file [] (gate_of j))) }
+            (λ file. file ≢ [] → LieBefore (header_bytes (version_in j) (header_of header.now)) file [] (gate_of j))) }
         ensures refused { IfNotAJournal result
             (IfSome (D.seen disk.old) (λ file. (file ≢ []) × ((v : Kind) → ¬ IsJournal v (header_of header.now) file))) }
         ensures gate { IfOk result (λ j. gate_of j ≡ 60) }

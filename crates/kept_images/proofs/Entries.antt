@@ -7,7 +7,7 @@ use Rattle.message_defs.specs.Updates.{Update, Value}
 use Rattle.message_defs.specs.Statements.{Statement, Ready, Claim, Conflicts, slot_of, view_of, same_slot, same_statement}
 use Rattle.group_defs.specs.Views.{View, is_member, is_possible}
 use Rattle.group_defs.specs.Process.{Setting, Delivered, places_in}
-use Rattle.group_defs.specs.Accounts.{StandsByPlace, stands_by_place}
+use Rattle.group_defs.specs.Accounts.{IsByPlace, is_by_place}
 use Rattle.group_defs.specs.Hearing.{is_valid}
 use Rattle.pool_laws.proofs.Slots.{same_slot-is, is-same_slot, same_statement-is, is-same_statement}
 use Rattle.pool_laws.proofs.Tests.{and-first, and-second, both-true, or-cases, not-both}
@@ -51,14 +51,14 @@ so-short payload le = le-leb (length payload) most_payload_bytes le
 
 -- ---- placed
 
-pub placed-so : (ds : List Delivered) → is_placed ds ≡ true → StandsByPlace ds × (places_in ds ≤ most_places)
+pub placed-so : (ds : List Delivered) → is_placed ds ≡ true → IsByPlace ds × (places_in ds ≤ most_places)
 placed-so ds ok = (
-  stands-there ds (and-second (nat_le (places_in ds) most_places) (stands_by_place ds) ok),
-  leb-true (places_in ds) most_places (and-first (nat_le (places_in ds) most_places) (stands_by_place ds) ok),
+  stands-there ds (and-second (nat_le (places_in ds) most_places) (is_by_place ds) ok),
+  leb-true (places_in ds) most_places (and-first (nat_le (places_in ds) most_places) (is_by_place ds) ok),
 )
 
-pub so-placed : (ds : List Delivered) → StandsByPlace ds × (places_in ds ≤ most_places) → is_placed ds ≡ true
-so-placed ds so = both-true (nat_le (places_in ds) most_places) (stands_by_place ds) (le-leb (places_in ds) most_places so.1)
+pub so-placed : (ds : List Delivered) → IsByPlace ds × (places_in ds ≤ most_places) → is_placed ds ≡ true
+so-placed ds so = both-true (nat_le (places_in ds) most_places) (is_by_place ds) (le-leb (places_in ds) most_places so.1)
     (there-stands ds so.0)
 
 -- ---- claims

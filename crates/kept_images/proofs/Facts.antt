@@ -7,16 +7,16 @@ use Rattle.message_defs.specs.Limits.{most_places, most_payload_bytes}
 use Rattle.message_defs.specs.Statements.{Claim, Conflicts}
 use Rattle.group_defs.specs.Process.{Setting, Delivered, places_in}
 use Rattle.group_defs.specs.Hearing.{is_valid}
-use Rattle.group_defs.specs.Accounts.{StandsByPlace}
+use Rattle.group_defs.specs.Accounts.{IsByPlace}
 use Rattle.pool_laws.proofs.Members.{tested-all, all-tested}
 use Rattle.pool_laws.proofs.Tests.{and-first, and-second, both-true}
-use Rattle.kept_images.specs.Facts.{StandByPlace, AreAccepted, AreConflicts}
+use Rattle.kept_images.specs.Facts.{AreByPlace, AreAccepted, AreConflicts}
 use Rattle.kept_images.specs.Tests.{is_short, is_conflict, are_others, are_conflicts}
 use Rattle.kept_images.proofs.Entries.{short-so, so-short, conflict-so, so-conflict}
 use Rattle.kept_images.proofs.Walks.{keys-differ}
 
-pub places-all : (lists : List (List Delivered)) {B : Type 0} → (B ↔ All (λ ds. StandsByPlace ds × (places_in ds ≤ most_places)) lists)
-    → B ↔ StandByPlace lists
+pub places-all : (lists : List (List Delivered)) {B : Type 0} → (B ↔ All (λ ds. IsByPlace ds × (places_in ds ≤ most_places)) lists)
+    → B ↔ AreByPlace lists
 places-all lists both = (
   λ b. (let all = both.0 b in record { by_place = λ k d lt. (all k d lt).0; few = λ k d lt. (all k d lt).1 }),
   λ so. both.1 (λ k d lt. (so.by_place k d lt, so.few k d lt)),

@@ -7,7 +7,7 @@ use Rattle.message_defs.specs.Statements.{Claim, Conflicts, view_of}
 use Rattle.group_defs.specs.Views.{View, is_member, is_possible}
 use Rattle.group_defs.specs.Process.{Setting, Delivered, delivered_from, places_in}
 use Rattle.group_defs.specs.Hearing.{is_valid}
-use Rattle.group_defs.specs.Accounts.{StandsByPlace}
+use Rattle.group_defs.specs.Accounts.{IsByPlace}
 
 -- of each pair of claims both are one signer's, conflict, and are valid; and each signer has one pair
 pub record AreConflicts (s : Setting) (pairs : List (Claim × Claim)) : Type 0 where
@@ -19,8 +19,8 @@ abbrev pub AreOwn : Setting → ℕ → View → List Claim → Type 0
 AreOwn s me v cs = All (λ c. (c.signer ≡ me) × (view_of c.statement ≤ v.number) × IsTrue (is_valid s c)) cs
 
 -- what was delivered in each view is in the order of places, and has no more places than a view
-pub record StandByPlace (lists : List (List Delivered)) : Type 0 where
-  pub by_place : All StandsByPlace lists
+pub record AreByPlace (lists : List (List Delivered)) : Type 0 where
+  pub by_place : All IsByPlace lists
   pub few : All (λ ds. places_in ds ≤ most_places) lists
 
 -- the update of what is decided is possible in the view, the process is a member of it, and `places` is not the cut

@@ -13,7 +13,7 @@ use Rattle.group_defs.specs.Process.{Setting, Delivered, keyed, places_in}
 use Rattle.group_defs.specs.Hearing.{is_valid}
 use Rattle.image_defs.specs.Images.{LeftView}
 use Rattle.rp_base.specs.Pids.{put_once}
-use Rattle.group_defs.specs.Accounts.{stands_by_place}
+use Rattle.group_defs.specs.Accounts.{is_by_place}
 
 -- as an entry of `ArePerceived`
 abbrev pub is_perceived : List ℕ → View → ℕ × Update → Bool
@@ -23,9 +23,9 @@ is_perceived keyed v e = nat_lt e.0 v.number || (e.0 == v.number && is_possible 
 abbrev pub is_short : List ℕ → Bool
 is_short payload = nat_le (length payload) most_payload_bytes
 
--- as an entry of `StandByPlace`
+-- as an entry of `AreByPlace`
 abbrev pub is_placed : List Delivered → Bool
-is_placed ds = nat_le (places_in ds) most_places && stands_by_place ds
+is_placed ds = nat_le (places_in ds) most_places && is_by_place ds
 
 -- as an entry of `AreOwn`
 abbrev pub is_own : Setting → ℕ → View → Claim → Bool

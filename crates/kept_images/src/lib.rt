@@ -17,6 +17,6 @@ pub use conflicts::are_conflicts;
 pub use decided::{decides, is_halted_so};
 pub use left::view_behind;
 pub use perceived::are_perceived;
-pub use placed::{count_places, stand_by_place};
+pub use placed::{are_by_place, count_places};
 pub use signed::are_own;
 pub use valid::is_valid;

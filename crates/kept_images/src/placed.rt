@@ -2,7 +2,7 @@ ghost use Rattle.std.specs.Prelude.{◌≡◌, ◌↔◌, ◌<◌, map, IsTrue};
 ghost use Rattle.std.specs.List.{list_all};
 ghost use Rattle.group_defs.specs.Process.{places_in};
 ghost use Rattle.snapshot_rp.specs.Views.{delivered as plain};
-ghost use Rattle.kept_images.specs.Facts.{StandByPlace};
+ghost use Rattle.kept_images.specs.Facts.{AreByPlace};
 ghost use Rattle.kept_images.specs.Tests as tests;
 
 use member_events::Delivered;
@@ -45,8 +45,8 @@ fn each_is_placed(lists: &[Vec<Delivered>]) -> bool
 
 /// Whether what was delivered in each view is in the order of places: at each place from the first on 1 to 16 messages, one place after the
 /// other, and at most 1,024 of them.
-pub fn stand_by_place(lists: &[Vec<Delivered>]) -> bool
-    ensures { IsTrue result ↔ StandByPlace (map (λ ds. map plain ds.items) lists.now) }
+pub fn are_by_place(lists: &[Vec<Delivered>]) -> bool
+    ensures { IsTrue result ↔ AreByPlace (map (λ ds. map plain ds.items) lists.now) }
 {
     each_is_placed(lists)
 }

@@ -21,10 +21,10 @@ use Rattle.own_place.specs.Signed.{has_slot}
 use Rattle.pool_laws.proofs.Members.{All-mem, Mem}
 use Rattle.pool_laws.proofs.Tests.{yes-is}
 use Rattle.safety_laws.proofs.Batches.{AreAt, named_at, with_place, delivery-at, delivery-names, places-one-more, of-one}
-use Rattle.member_laws.specs.Telling.{messages_of, HearingTells, DeliveredIsCounted, DeliveringTells, InstallingTells}
+use Rattle.member_laws.specs.Telling.{messages_of, HearingKeepsOwn, DeliveredIsCounted, DeliveringCountsOwn, InstallingBeginsOwn}
 
-pub hearing_tells : HearingTells
-hearing_tells s p h own c is = go (verdict s p c)
+pub hearing_keeps_own : HearingKeepsOwn
+hearing_keeps_own s p h own c is = go (verdict s p c)
   where
     go : (v : Verdict) → IsOwnOf s (with_verdict v p c) (with_verdict v p c).pool own
     go Heard = record {
@@ -143,8 +143,8 @@ some-more : (ds es : List Delivered) → 1 ≤ length (messages_of es) → AreAt
 some-more ds [] le at = absurd (omega (arith, le))
 some-more ds (e ∷ es) le at = (let more = places-one-more ds es e at in omega (arith, more))
 
-pub delivering_tells : DeliveringTells
-delivering_tells s p h own own' b ds some e more is = record {
+pub delivering_counts_own : DeliveringCountsOwn
+delivering_counts_own s p h own own' b ds some e more is = record {
   pool = is.pool;
   number = is.number ∙ part (λ o. o.me);
   position = is.position ∙ part (λ o. o.position);
@@ -238,8 +238,8 @@ sum-more : (me : ℕ) (ls : List Left) (l : Left)
 sum-more me ls l = ap sum (map-append (λ (v : Left). delivered_from me v.delivered) ls (l ∷ [])) ∙ fold-append (λ (a b : ℕ). a + b) 0
     (map (λ (v : Left). delivered_from me v.delivered) ls) (delivered_from me l.delivered ∷ [])
 
-pub installing_tells : InstallingTells
-installing_tells s p h own own' d ok begins is = record {
+pub installing_begins_own : InstallingBeginsOwn
+installing_begins_own s p h own own' d ok begins is = record {
   pool = refl;
   number = is.number ∙ sym begins.number;
   position = ap (rank_of next) is.number ∙ sym begins.position;

@@ -17,8 +17,8 @@ abbrev pub messages_of : List Delivered → List Message
 messages_of ds = map (λ d. d.message) ds
 
 -- hearing a claim changes nothing of the own place
-abbrev pub HearingTells : Type 0
-HearingTells = (s : Setting) (p : Process) (h : Pool) (own : Own) (c : Claim) → IsOwnOf s p h own → IsOwnOf s (hear s p c) (hear s p c).pool own
+abbrev pub HearingKeepsOwn : Type 0
+HearingKeepsOwn = (s : Setting) (p : Process) (h : Pool) (own : Own) (c : Claim) → IsOwnOf s p h own → IsOwnOf s (hear s p c) (hear s p c).pool own
 
 -- how many of each member's messages were delivered, by their list
 abbrev pub DeliveredIsCounted : Type 0
@@ -30,8 +30,8 @@ pub record OnePlaceMore (v : View) (b : Batch) (delivered : List Delivered) (own
   pub counts : own.counts.items ≡ counts_in v (messages_of delivered) → own'.counts.items ≡ counts_in v (messages_of delivered ++ b)
 
 -- the own place of p, with the next place delivered and its messages counted, is that of p after it delivered the next place
-abbrev pub DeliveringTells : Type 0
-DeliveringTells = (s : Setting) (p : Process) (h : Pool) (own own' : Own) (b : Batch) (ds : List Delivered) → 1 ≤ length b
+abbrev pub DeliveringCountsOwn : Type 0
+DeliveringCountsOwn = (s : Setting) (p : Process) (h : Pool) (own own' : Own) (b : Batch) (ds : List Delivered) → 1 ≤ length b
     → delivery p.pool (places_in p.delivered) b ≡ Some ds
     → OnePlaceMore p.pool.view b p.delivered own own' → IsOwnOf s p h own → IsOwnOf s (record p { delivered = p.delivered ++ ds }) h own'
 
@@ -51,7 +51,7 @@ pub record Begins (v : View) (own own' : Own) (delivered : ℕ) : Type 0 where
   pub before : own'.earlier ≡ own.earlier + delivered
 
 -- an own place that begins in the next view is that of p after it installed the next view
-abbrev pub InstallingTells : Type 0
-InstallingTells = (s : Setting) (p : Process) (h : Pool) (own own' : Own) (d : ℕ × Value) → IsLawful p
+abbrev pub InstallingBeginsOwn : Type 0
+InstallingBeginsOwn = (s : Setting) (p : Process) (h : Pool) (own own' : Own) (d : ℕ × Value) → IsLawful p
     → Begins (next_view p.pool.view d.1.update) own own' (delivered_from p.me p.delivered)
     → IsOwnOf s p h own → IsOwnOf s (install d p) (record { view = next_view p.pool.view d.1.update; heard = [] }) own'

@@ -2,7 +2,7 @@
 //! body. The code of a member keeps what they say from change to change.
 #![tactic(auto)]
 
-ghost use Rattle.member_laws.specs.Telling.{HearingTells, DeliveredIsCounted, DeliveringTells, InstallingTells};
+ghost use Rattle.member_laws.specs.Telling.{HearingKeepsOwn, DeliveredIsCounted, DeliveringCountsOwn, InstallingBeginsOwn};
 ghost use Rattle.member_laws.specs.Lawful.{StartIsLawful, HearingIsLawful, SigningIsLawful, AcceptingIsLawful, InstallingIsLawful, DueIsInRange};
 
 pub use own_place::{Own, SignedSlots};
@@ -33,8 +33,8 @@ pub fn installing_is_lawful()
 {}
 
 /// Hearing a claim leaves the own place as it is.
-pub fn hearing_tells()
-    ensures { HearingTells }
+pub fn hearing_keeps_own()
+    ensures { HearingKeepsOwn }
 {}
 
 /// How many of each member's messages were delivered is counted by their list.
@@ -43,13 +43,13 @@ pub fn delivered_is_counted()
 {}
 
 /// With the next place delivered and its messages counted, the own place is that of the process still.
-pub fn delivering_tells()
-    ensures { DeliveringTells }
+pub fn delivering_counts_own()
+    ensures { DeliveringCountsOwn }
 {}
 
 /// In the view that is installed, the own place is one in which nothing is signed or delivered.
-pub fn installing_tells()
-    ensures { InstallingTells }
+pub fn installing_begins_own()
+    ensures { InstallingBeginsOwn }
 {}
 
 /// What a lawful process may sign is in range.

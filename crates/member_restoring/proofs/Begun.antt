@@ -7,7 +7,7 @@ use Rattle.group_defs.specs.Process.{Setting}
 use Rattle.group_defs.specs.Hearing.{is_valid}
 use Rattle.image_defs.specs.Images.{Image, process_of, view_behind}
 use Rattle.image_defs.specs.Kept.{IsKept}
-use Rattle.restored_present.specs.Left.{IsLeftSo, StandByPlace, installed_from}
+use Rattle.restored_present.specs.Left.{IsLeftSo, AreByPlace, installed_from}
 use Rattle.pool_laws.proofs.Members.{All-mem, mem-All}
 use Rattle.restored_present.specs.Parts.{IsPresentSo, IsReportedSo}
 use Rattle.member_restoring.specs.Parts.{IsOf}
@@ -32,7 +32,7 @@ own-so s v i reported = mem-All (λ (c : Claim). c.signer ≡ i.me) i.signed (λ
     (let is = All-mem (λ (c : Claim). (c.signer ≡ i.me) × (view_of c.statement ≤ v.number) × IsTrue (is_valid s c)) i.signed c reported.own m in is.0))
 
 -- once all was asked for, the image is kept
-pub kept-so : (s : Setting) (i : Image) (genesis : View) → s.genesis ≡ genesis → length i.delivered ≡ length i.left + 1 → StandByPlace i.delivered
+pub kept-so : (s : Setting) (i : Image) (genesis : View) → s.genesis ≡ genesis → length i.delivered ≡ length i.left + 1 → AreByPlace i.delivered
     → IsLeftSo s i → (v : View) → v ≡ view_behind genesis i.left → IsReportedSo s v i → IsPresentSo s (process_of s 1 i) → IsKept s i
 kept-so s i genesis at many placed left v behind reported present = kept-is s i many placed left
     (subst (λ (w : View). IsReportedSo s w i) (behind ∙ ap (λ (g : View). view_behind g i.left) (sym at)) reported) present

@@ -5,7 +5,7 @@ use Rattle.group_defs.specs.Views.{View}
 use Rattle.group_defs.specs.Process.{Setting, Process, Delivered, earlier, delivered_from}
 use Rattle.image_defs.specs.Images.{Image, LeftView, lefts_from, process_of, view_behind}
 use Rattle.image_defs.specs.Kept.{IsKept}
-use Rattle.restored_present.specs.Left.{IsLeftSo, StandByPlace}
+use Rattle.restored_present.specs.Left.{IsLeftSo, AreByPlace}
 use Rattle.restored_present.specs.Parts.{IsReportedSo, IsPresentSo}
 use Rattle.member_restoring.proofs.Lists.{own-are}
 
@@ -27,7 +27,7 @@ module _ (s : Setting) (i : Image) (lists : length i.delivered ≡ length i.left
   own-all : earlier p + delivered_from p.me p.delivered ≡ sum_by (λ ds. delivered_from i.me ds) i.delivered
   own-all = own-are i.me s.genesis i.left i.delivered lists
 
-  pub kept-is : StandByPlace i.delivered → IsLeftSo s i → IsReportedSo s v i → IsPresentSo s p → IsKept s i
+  pub kept-is : AreByPlace i.delivered → IsLeftSo s i → IsReportedSo s v i → IsPresentSo s p → IsKept s i
   kept-is placed left reported present = record {
     left = left.left;
     last = left.last;
@@ -52,7 +52,7 @@ module _ (s : Setting) (i : Image) (lists : length i.delivered ≡ length i.left
   }
 
   module _ (kept : IsKept s i) where
-    pub stand-so : StandByPlace i.delivered
+    pub stand-so : AreByPlace i.delivered
     stand-so = record { by_place = kept.by_place; few = kept.few_places }
 
     pub left-so : IsLeftSo s i

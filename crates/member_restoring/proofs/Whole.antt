@@ -11,7 +11,7 @@ use Rattle.message_defs.specs.Spelling.{IsClaim, IsUpdate, IsViewNumber}
 use Rattle.group_defs.specs.Views.{View, IsView, is_member, is_possible, quorum, has_keys, next_fault, next_view}
 use Rattle.group_defs.proofs.FollowingViews.{next_is_view}
 use Rattle.group_defs.specs.Process.{Setting, Pool, Process, Left, Delivered, keyed, places_in}
-use Rattle.group_defs.specs.Accounts.{StandsByPlace}
+use Rattle.group_defs.specs.Accounts.{IsByPlace}
 use Rattle.group_defs.specs.Hearing.{is_strange, is_valid}
 use Rattle.group_defs.specs.Laws.{IsOfView}
 use Rattle.image_defs.specs.Images.{Image, LeftView, lefts_from, other_lists, previous_from, process_of}
@@ -84,7 +84,7 @@ module _ (s : Setting) (batch_limit : ℕ) (i : Image) (spelled : IsImage Two i)
       (λ e m. (All-mem IsPerceived p.perceived e (each-all IsPerceived 0 i.perceived spelled.perceived.1) m).1)
 
   few-each : All AreFew i.delivered
-  few-each = mem-All AreFew i.delivered (λ ds m. few-of ds (All-mem StandsByPlace i.delivered ds kept.by_place m)
+  few-each = mem-All AreFew i.delivered (λ ds m. few-of ds (All-mem IsByPlace i.delivered ds kept.by_place m)
       (All-mem (λ (ds : List Delivered). places_in ds ≤ most_places) i.delivered ds kept.few_places m))
 
   bounded : IsBounded p

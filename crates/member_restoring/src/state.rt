@@ -8,15 +8,15 @@ ghost use Rattle.snapshot_defs.specs.Ranges.{IsImage};
 ghost use Rattle.snapshot_defs.specs.declared.Version.TheVariants.{Two};
 ghost use Rattle.snapshot_rp.specs.Views.{image as image_as};
 ghost use Rattle.restored_present.specs.Members.{IsStateOf, account, claims_of as all_of};
-ghost use Rattle.restored_present.specs.Left.{HasPast, Shares, StandByPlace};
+ghost use Rattle.restored_present.specs.Left.{HasPast, Shares, AreByPlace};
 ghost use Rattle.view_table.specs.Views.{IsNumberedView};
 ghost use Rattle.member_restoring.specs.Judged.{Judges};
 ghost use Rattle.restored_present.specs.Parts.{HasPresent, IsPresentSo};
 ghost use Rattle.member_restoring.specs.Parts.{HasParts, IsOf};
 
 use restored_present::{
-    Account, Judge, Left, Present, ProcessState, SaidBefore, asked_in, claims_of, conflicts_of,
-    installed, is_reported, left_in, present_in, said_in, stand_by_place,
+    Account, Judge, Left, Present, ProcessState, SaidBefore, are_by_place, asked_in, claims_of,
+    conflicts_of, installed, is_reported, left_in, present_in, said_in,
 };
 use rp_base::{NoMemory, Scheme};
 use snapshot_rp::{Image, KeptClaim};
@@ -99,7 +99,7 @@ fn present_after<V: Scheme>(
     image: &Image,
 ) -> Result<Option<Present>, NoMemory>
     requires spelled { IsImage Two (image_as image.now) }
-    requires placed { StandByPlace (image_as image.now).delivered }
+    requires placed { AreByPlace (image_as image.now).delivered }
     ensures exact { (s : Setting) → Shares s (V.valid judge.now.scheme.now) judge.now.group.now judge.now.roster.now
         → view.now ≡ behind s.genesis (image_as image.now).left
         → IfOk result (λ r. IsTrue (is_some r) ↔ IsPresentSo s (process_of s 1 (image_as image.now))) }
@@ -137,7 +137,7 @@ pub fn state_of<V: Scheme>(
 {
     let first = genesis.number();
     prove!(first == 0);
-    if !stand_by_place(&image.delivered) {
+    if !are_by_place(&image.delivered) {
         return Ok(None);
     }
     let Some(left) = left_in(alloc, judge, &genesis, &image)? else {

@@ -20,7 +20,7 @@ use Rattle.group_defs.specs.Accounts.{Account, account_of}
 use Rattle.group_defs.specs.Events.{Note, Installs, note_if}
 use Rattle.member_events.specs.declared.events.Note as code
 use Rattle.member_state.specs.Events.{note}
-use Rattle.member_settling.specs.Reported.{TellsInstalled}
+use Rattle.member_settling.specs.Reported.{ReportsInstalled}
 use Rattle.member_settling.specs.Begun.{IsLast}
 use Rattle.member_settling.proofs.Real.{last}
 use Rattle.pool_laws.proofs.Members.{All-mem, mem-All}
@@ -32,7 +32,7 @@ use Rattle.member_state.specs.Parts.{has_update}
 use Rattle.member_state.specs.Parts.{all_signed}
 use Rattle.member_state.specs.Below.{IsIn, Begins}
 use Rattle.accounts.specs.Views.{account}
-use Rattle.member_state.proofs.Below.{installing_is_lawful, installing_tells}
+use Rattle.member_state.proofs.Below.{installing_is_lawful, installing_begins_own}
 use Rattle.member_state.specs.declared.state.ProcessState.{ProcessState}
 use Rattle.member_state.specs.States.{IsStateOf, claims_of}
 use Rattle.member_settling.specs.Steps.{in_phase, IsLeaving}
@@ -101,7 +101,7 @@ module _ (s : Setting) (p : Process) (d : ℕ × Value) (old new : ProcessState)
   fresh = begun.pool ∙ ap empty_pool is
 
   tells : IsOwnOf s q (record { view = next_view p.pool.view d.1.update; heard = [] }) new.own
-  tells = installing_tells s p old.pool.pool old.own new.own d ok.lawful begins ok.place
+  tells = installing_begins_own s p old.pool.pool old.own new.own d ok.lawful begins ok.place
 
   more : earlier q ≡ earlier p + delivered_from p.me p.delivered
   more = tells.before ∙ begins.before ∙ ap (λ n. n + delivered_from p.me p.delivered) (sym ok.place.before)
@@ -199,7 +199,7 @@ module _ (s : Setting) (p : Process) (d : ℕ × Value) (old new : ProcessState)
 
 -- the view is told
 pub installs-reported : (p : Process) (d : ℕ × Value) (v : View) (was now : List code.Note) (n : code.Note) → now ≡ was ++ n ∷ []
-    → note n ≡ Installs v → v ≡ next_view p.pool.view d.1.update → TellsInstalled p (install d p) was now
+    → note n ≡ Installs v → v ≡ next_view p.pool.view d.1.update → ReportsInstalled p (install d p) was now
 installs-reported p d v was now n more says is =
     ap (map note) more
     ∙ map-append note was (n ∷ [])

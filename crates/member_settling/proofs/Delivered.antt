@@ -14,7 +14,7 @@ use Rattle.member_state.specs.Below.{Phase, IsIn, IsLawful, OnePlaceMore}
 use Rattle.member_state.specs.Phases as phases
 use Rattle.accounts.specs.declared.account.Account as code
 use Rattle.accounts.specs.Views.{account}
-use Rattle.member_state.proofs.Below.{delivering_tells}
+use Rattle.member_state.proofs.Below.{delivering_counts_own}
 use Rattle.member_state.specs.declared.state.ProcessState.{ProcessState}
 use Rattle.member_events.specs.declared.events.Note as notes
 use Rattle.member_state.specs.Events.{note}
@@ -85,7 +85,7 @@ module _ (p : Process) (ds : List defs.Delivered) where
     halted_beyond = λ stops d e. (let lt = ok.halted_beyond stops d e in let places = next.more in omega (arith, lt, places));
     ranged = ok.ranged;
     limit = ok.limit;
-    place = delivering_tells s p st.pool.pool st.own own next.batch ds next.some next.delivers more ok.place;
+    place = delivering_counts_own s p st.pool.pool st.own own next.batch ds next.some next.delivers more ok.place;
     phase = phase-so st.phase on ok.phase;
     asked = ok.asked;
     said = ok.said;

@@ -18,7 +18,7 @@ use Rattle.member_state.specs.Below.{batch_in}
 use Rattle.member_state.specs.declared.state.ProcessState.{ProcessState}
 use Rattle.member_state.specs.Events.{note}
 use Rattle.member_state.specs.States.{IsStateOf, HasProcess}
-use Rattle.member_settling.specs.Reported.{TellsDelivered}
+use Rattle.member_settling.specs.Reported.{ReportsDelivered}
 use Rattle.member_settling.specs.Steps as steps
 use Rattle.member_settling.specs.Steps.{ComesNext}
 use Rattle.member_settling.proofs.Bounded.{is-next}
@@ -26,11 +26,11 @@ use Rattle.member_settling.proofs.Deliveries.{no-more, none-more, one-more, memb
 
 -- ---- what is told
 
-pub tells-nothing : (p : Process) (was : List code.Note) → TellsDelivered p p was was
+pub tells-nothing : (p : Process) (was : List code.Note) → ReportsDelivered p p was was
 tells-nothing p was = record { more = []; delivered = sym (append-nil p.delivered); reported = sym (append-nil (map note was)) }
 
-pub tells-both : (p q r : Process) (was now then_ : List code.Note) → q.pool.view.number ≡ p.pool.view.number → TellsDelivered p q was now
-    → TellsDelivered q r now then_ → TellsDelivered p r was then_
+pub tells-both : (p q r : Process) (was now then_ : List code.Note) → q.pool.view.number ≡ p.pool.view.number → ReportsDelivered p q was now
+    → ReportsDelivered q r now then_ → ReportsDelivered p r was then_
 tells-both p q r was now then_ same a b = record {
   more = a.more ++ b.more;
   delivered = b.delivered ∙ ap (λ (ds : List defs.Delivered). ds ++ b.more) a.delivered ∙ append_assoc p.delivered a.more b.more;
@@ -134,7 +134,7 @@ seat : (s : Setting) (p : Process) (st : ProcessState) → IsStateOf s p st
 seat s p st ok = λ i. is_member (ok.place.pool i).view (ok.place.number i)
 
 -- what was delivered stands behind what was there
-pub reported-behind : (p q : Process) (was now : List code.Note) → (reported : TellsDelivered p q was now)
+pub reported-behind : (p q : Process) (was now : List code.Note) → (reported : ReportsDelivered p q was now)
     → map note now ≡ map note was ++ map (Delivers p.pool.view.number) (drop (length p.delivered) q.delivered)
 reported-behind p q was now reported =
     reported.reported ∙ ap (λ (ds : List defs.Delivered). map note was ++ map (Delivers p.pool.view.number) ds)

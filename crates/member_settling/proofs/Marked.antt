@@ -13,7 +13,7 @@ use Rattle.member_state.specs.Parts.{Archived}
 use Rattle.member_state.specs.Below.{Phase}
 use Rattle.accounts.specs.declared.account.Account as code
 use Rattle.accounts.specs.Views.{account}
-use Rattle.accounts.specs.Marks.{TellsSince, without_last}
+use Rattle.accounts.specs.Marks.{GrewSince, without_last}
 use Rattle.accounts.proofs.Since.{more_delivered}
 use Rattle.member_state.specs.declared.marks.Before.{Before}
 use Rattle.member_state.specs.declared.left.LeftView.{LeftView}
@@ -79,7 +79,7 @@ module _ (b : Before) (was now : ProcessState) (is : Stays b was now) where
         pairs = is.pairs;
         previous = is.previous;
         commits = is.commits;
-        account = subst (λ (a : Account). TellsSince b.account (account was.account) a) (sym tells)
+        account = subst (λ (a : Account). GrewSince b.account (account was.account) a) (sym tells)
             (more_delivered b.account (account was.account) (account now.account) is.account put.more);
         limit = is.limit;
       }
@@ -103,7 +103,7 @@ module _ (b : Before) (was now : ProcessState) (is : Stays b was now) where
     pairs = ap (λ (st : ProcessState). st.conflicts.marked) rest ∙ is.pairs;
     previous = ap (λ (a : Archived). a.previous) archive ∙ is.previous;
     commits = ap (λ (a : Archived). a.commits) archive ∙ is.commits;
-    account = subst (λ (a : Account). TellsSince b.account (account was.account) a) (sym reported) is.account;
+    account = subst (λ (a : Account). GrewSince b.account (account was.account) a) (sym reported) is.account;
     limit = ap (λ (st : ProcessState). st.batch_limit) rest ∙ is.limit;
   }
 
@@ -145,7 +145,7 @@ since-left b was old new v commit older turns is =
       pairs = turns.pairs ∙ is.pairs;
       previous = turns.previous ∙ is.previous;
       commits = ap (λ (cs : List (List Signed)). take (length cs - 1) cs) turns.commits ∙ but-last old.archive.commits commit ∙ is.commits;
-      account = subst (λ (a : Account). TellsSince b.account (account was.account) a)
+      account = subst (λ (a : Account). GrewSince b.account (account was.account) a)
           (sym (without-put (account old.account) (account new.account) v turns.account)) is.account;
       limit = turns.limit ∙ is.limit;
     } in

@@ -14,7 +14,7 @@ use Rattle.member_state.specs.Phases as phases
 use Rattle.member_state.specs.declared.state.ProcessState.{ProcessState}
 use Rattle.member_state.specs.Events.{note}
 use Rattle.member_state.specs.States.{IsStateOf}
-use Rattle.member_settling.specs.Reported.{TellsDelivered, TellsInstalled}
+use Rattle.member_settling.specs.Reported.{ReportsDelivered, ReportsInstalled}
 use Rattle.member_settling.specs.Steps as steps
 use Rattle.member_settling.specs.Steps.{in_phase}
 use Rattle.member_settling.proofs.Changed.{state-so}
@@ -56,7 +56,7 @@ stays s p st (phases.HaltedView h) ok is not = halted-stays s p st _ ok (halted 
 
 -- ---- what is told
 
-none-installed : (p : Process) (was : List code.Note) → TellsInstalled p p was was
+none-installed : (p : Process) (was : List code.Note) → ReportsInstalled p p was was
 none-installed p was = sym (append-nil (map note was)) ∙ ap (λ b. map note was ++ note_if b (Installs p.pool.view))
     (sym (go (nat_lt (length p.left) (length p.left)) refl))
   where
@@ -97,8 +97,8 @@ halts-so s p q st was d h ok same is beyond =
 
 -- ---- all that is told of settling
 
-pub all-reported : (p q r : Process) (was then_ now : List code.Note) → TellsDelivered p q was then_ → q.left ≡ p.left
-    → TellsInstalled q r then_ now
+pub all-reported : (p q r : Process) (was then_ now : List code.Note) → ReportsDelivered p q was then_ → q.left ≡ p.left
+    → ReportsInstalled q r then_ now
     → map note now ≡ map note was ++ map (Delivers p.pool.view.number) (drop (length p.delivered) q.delivered)
     ++ note_if (nat_lt (length p.left) (length r.left)) (Installs r.pool.view)
 all-reported p q r was then_ now delivered same installed =

@@ -30,11 +30,11 @@ pub record HasMoreLast (before : List (List defs.Delivered)) (last : List defs.D
   pub delivered : now ≡ before ++ (last ++ more) ∷ []
 
 -- q delivered more than p in the same view, and each of these is reported
-pub record TellsDelivered (p q : Process) (was now : List Note) : Type 0 where
+pub record ReportsDelivered (p q : Process) (was now : List Note) : Type 0 where
   pub more : List defs.Delivered
   pub delivered : q.delivered ≡ p.delivered ++ more
   pub reported : map note now ≡ map note was ++ map (Delivers p.pool.view.number) more
 
 -- where q left a view more than p, the view that it installed is reported
-abbrev pub TellsInstalled : Process → Process → List Note → List Note → Type 0
-TellsInstalled p q was now = map note now ≡ map note was ++ note_if (nat_lt (length p.left) (length q.left)) (Installs q.pool.view)
+abbrev pub ReportsInstalled : Process → Process → List Note → List Note → Type 0
+ReportsInstalled p q was now = map note now ≡ map note was ++ note_if (nat_lt (length p.left) (length q.left)) (Installs q.pool.view)

@@ -9,7 +9,7 @@ use Rattle.member_events.specs.declared.events.Note.{Note}
 use Rattle.member_state.specs.Below.{batch_in, Phase}
 use Rattle.member_state.specs.declared.state.ProcessState.{ProcessState}
 use Rattle.member_state.specs.States.{IsStateOf}
-use Rattle.member_settling.specs.Reported.{TellsDelivered, TellsInstalled}
+use Rattle.member_settling.specs.Reported.{ReportsDelivered, ReportsInstalled}
 
 -- ---- delivering
 
@@ -22,7 +22,7 @@ pub record ComesNext (p : Process) (ds : List defs.Delivered) (b : Batch) : Type
 -- the state is that of q, which delivered more than p, and each of these deliveries is reported
 pub record Delivers (s : Setting) (p q : Process) (st : ProcessState) (was now : List Note) : Type 0 where
   pub state : IsStateOf s q st
-  pub reported : TellsDelivered p q was now
+  pub reported : ReportsDelivered p q was now
 
 -- ---- leaving
 
@@ -50,4 +50,4 @@ CanLeave d st = ∥ HasLeaving d st ∥₁
 -- the state is that of q, which came of p, and a view that was installed is reported
 pub record Leaves (s : Setting) (p q : Process) (st : ProcessState) (was now : List Note) : Type 0 where
   pub state : IsStateOf s q st
-  pub reported : TellsInstalled p q was now
+  pub reported : ReportsInstalled p q was now

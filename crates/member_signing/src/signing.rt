@@ -15,7 +15,7 @@ ghost use Rattle.member_signing.specs.Signed.{IsUndecided, IsOwed, IsSigned};
 
 use crate::making::make;
 use crate::putting::put;
-use due_statements::{KINDS, Kind, Standing, due};
+use due_statements::{KINDS, Kind, RuleInputs, due};
 use member_state::{Before, Phase, ProcessState};
 use rp_base::{GroupId, NoMemory, Signer, Tally};
 use std::alloc::Global;
@@ -30,11 +30,11 @@ fn is_decided(phase: &Phase) -> bool
 }
 
 // The process, as what is due is asked of it.
-fn standing(state: &ProcessState) -> Standing<'_>
+fn rule_inputs(state: &ProcessState) -> RuleInputs<'_>
     ensures stands { (s : defs.Setting) (p : defs.Process) → IsStateOf s p state.now → IsAskedOf s p result }
     ensures seated { IsReal state.now → IsSeated result }
 {
-    Standing {
+    RuleInputs {
         pool: &state.pool,
         own: &state.own,
         perceived: &state.perceived,
@@ -48,7 +48,7 @@ fn is_due(state: &ProcessState, kind: Kind) -> bool
     requires { IsReal state.now }
     ensures { (s : defs.Setting) (p : defs.Process) → IsStateOf s p state.now → result ≡ is_some (least_due s p (kind_of kind)) }
 {
-    due_statements::is_due(&standing(state), kind)
+    due_statements::is_due(&rule_inputs(state), kind)
 }
 
 // The own claim on the least statement of the kind that is due, where one is. A signature is left.
@@ -73,7 +73,7 @@ fn next<G: Signer>(
     ensures secret { G.signature signer.new ≡ G.signature signer.old }
     ensures key { G.public signer.new ≡ G.public signer.old }
 {
-    let Some(statement) = due(&standing(state), kind) else {
+    let Some(statement) = due(&rule_inputs(state), kind) else {
         return Ok(None);
     };
     let own = make(alloc, group, state.own.me, &statement, signer)?;

@@ -4,7 +4,7 @@ use Rattle.group_defs.specs.Accounts as plain
 use Rattle.own_place.specs.Marks.{IsMarkOf}
 use Rattle.view_phases.specs.Marks.{marked}
 use Rattle.accounts.specs.Views.{account}
-use Rattle.accounts.specs.Marks.{TellsSince, without_last}
+use Rattle.accounts.specs.Marks.{GrewSince, without_last}
 use Rattle.member_state.specs.declared.marks.Before.{Before}
 use Rattle.member_state.specs.declared.left.LeftView.{LeftView}
 use Rattle.member_state.specs.declared.left.SaidBefore.{SaidBefore}
@@ -32,7 +32,7 @@ pub record Stays (b : Before) (was now : ProcessState) : Type 0 where
   pub pairs : now.conflicts.marked ≡ was.conflicts.pairs
   pub previous : now.archive.previous ≡ was.archive.previous
   pub commits : now.archive.commits ≡ was.archive.commits
-  pub account : TellsSince b.account (account was.account) (account now.account)
+  pub account : GrewSince b.account (account was.account) (account now.account)
   pub limit : now.batch_limit ≡ was.batch_limit
 
 -- Since the mark the process has left the view of the mark for the next one, and `left` is what was the process's there: so in that view
@@ -49,7 +49,7 @@ pub record HasLeft (b : Before) (was : ProcessState) (left : LeftView) (now : Pr
   pub pairs : now.conflicts.marked ≡ was.conflicts.pairs
   pub previous : left.older ≡ was.archive.previous
   pub commits : take (length now.archive.commits - 1) now.archive.commits ≡ was.archive.commits
-  pub account : TellsSince b.account (account was.account) (without_last (account now.account))
+  pub account : GrewSince b.account (account was.account) (without_last (account now.account))
   pub limit : now.batch_limit ≡ was.batch_limit
 
 -- since the mark, at which the state was `was`

@@ -10,21 +10,21 @@ same-within (x ∷ xs) zero d e lt = refl
 same-within (x ∷ xs) (suc n) d e lt = same-within xs n d e (omega (arith, lt))
 
 module _ {A B : Type 0} (view : A → B) (key : B → List ℕ) (a : A) where
-  abbrev stands_before : A → Bool
-  stands_before x = numbers_below (key (view a)) (key (view x))
+  abbrev lie_before : A → Bool
+  lie_before x = numbers_below (key (view a)) (key (view x))
 
   -- it stands before none of the first so many
   abbrev pub IsBehind : List A → ℕ → Type 0
-  IsBehind xs n = (k : ℕ) → k < n → (d : A) → stands_before (slice_index_or xs k d) ≡ false
+  IsBehind xs n = (k : ℕ) → k < n → (d : A) → lie_before (slice_index_or xs k d) ≡ false
 
   -- nor before the next one, so before none of one more
-  pub one-more : (xs : List A) (n : ℕ) (d : A) → n < length xs → IsBehind xs n → stands_before (slice_index_or xs n d) ≡ false
+  pub one-more : (xs : List A) (n : ℕ) (d : A) → n < length xs → IsBehind xs n → lie_before (slice_index_or xs n d) ≡ false
       → IsBehind xs (n + 1)
-  one-more xs n d lt behind not' = below_more (λ k. (e : A) → stands_before (slice_index_or xs k e) ≡ false) n behind
-      (λ e. ap stands_before (same-within xs n e d lt) ∙ not')
+  one-more xs n d lt behind not' = below_more (λ k. (e : A) → lie_before (slice_index_or xs k e) ≡ false) n behind
+      (λ e. ap lie_before (same-within xs n e d lt) ∙ not')
 
   -- behind them, it is put where it stands before the next one
-  pub put-before : (xs : List A) (n : ℕ) (d : A) → n < length xs → IsBehind xs n → stands_before (slice_index_or xs n d) ≡ true
+  pub put-before : (xs : List A) (n : ℕ) (d : A) → n < length xs → IsBehind xs n → lie_before (slice_index_or xs n d) ≡ true
       → map view (insert xs n a) ≡ put key (view a) (map view xs)
   put-before [] n d lt behind before = absurd (omega (arith, lt))
   put-before (x ∷ xs) zero d lt behind before = sym

@@ -68,7 +68,7 @@ fn hear<V: Scheme>(
 }
 
 // Whether the update, asked for in the view of this number, comes before the other one.
-fn stands_before(view: u16, update: &Update, other: &(u16, Update)) -> bool
+fn lie_before(view: u16, update: &Update, other: &(u16, Update)) -> bool
     ensures { result ≡ numbers_below (perceived_numbers (perceived_of (view, update.now))) (perceived_numbers (perceived_of other.now)) }
 {
     view < other.0 || (view == other.0 && update.is_before(other.1))
@@ -81,7 +81,7 @@ fn place_among(all: &[(u16, Update)], view: u16, update: &Update) -> usize
         ≡ put perceived_numbers (perceived_of (view, update.now)) (map perceived_of all.now) }
 {
     'updates: for (place, other) in all.iter().enumerate() {
-        if stands_before(view, update, other) {
+        if lie_before(view, update, other) {
             return place;
         }
     }

@@ -3,7 +3,7 @@ use member_events::EventFault;
 use member_image::PhaseWord;
 use message_defs::FrameFault;
 use report_lines::{
-    Answers, Standing, push_answers, push_block, push_head, push_process, push_refused,
+    Answers, ProcessReport, push_answers, push_block, push_head, push_process, push_refused,
     push_refused_count,
 };
 use rp_base::{Pid, PidSet};
@@ -44,7 +44,7 @@ fn a_process_with_two_liars(rt: HostRuntime) -> Result<(), Fail> {
     let mut liars = PidSet::new();
     liars.insert(pid(3)?);
     liars.insert(pid(2)?);
-    let standing = Standing {
+    let report = ProcessReport {
         account: &account,
         phase: PhaseWord::OpenView,
         signed: 3,
@@ -52,7 +52,7 @@ fn a_process_with_two_liars(rt: HostRuntime) -> Result<(), Fail> {
         halted: None,
     };
     let mut out = Vec::new(rt.alloc());
-    push_block(&mut out, &standing, false)?;
+    push_block(&mut out, &report, false)?;
     assert_eq!(rt;
         out.as_slice(),
         b"process 1 open 1 1 3\nview 1 0 : 0 1 2 3\nmessage 1 0 0 3 0 62\nliar 1 2\nliar 1 3\n".as_slice()
@@ -63,7 +63,7 @@ fn a_process_with_two_liars(rt: HostRuntime) -> Result<(), Fail> {
 #[test]
 fn a_process_that_halted(rt: HostRuntime) -> Result<(), Fail> {
     let account = reported(rt.alloc(), 2, b"")?;
-    let standing = Standing {
+    let report = ProcessReport {
         account: &account,
         phase: PhaseWord::HaltedView,
         signed: 12,
@@ -71,13 +71,13 @@ fn a_process_that_halted(rt: HostRuntime) -> Result<(), Fail> {
         halted: Some((1, 0)),
     };
     let mut out = Vec::new(rt.alloc());
-    push_block(&mut out, &standing, true)?;
+    push_block(&mut out, &report, true)?;
     assert_eq!(rt;
         out.as_slice(),
         b"process 2 halted 1 1 12\nview 2 0 : 0 1 2 3\nmessage 2 0 0 3 0 -\nspent 2\nhalted 2 1 0\n".as_slice()
     );
     let mut first = Vec::new(rt.alloc());
-    push_process(&mut first, &standing)?;
+    push_process(&mut first, &report)?;
     assert_eq!(rt; first.as_slice(), b"process 2 halted 1 1 12\n".as_slice());
     Ok(())
 }

@@ -8,7 +8,7 @@ use Rattle.std.proofs.lemmas.List.{append_assoc, length-take-le, take_at}
 use Rattle.kit_defs.specs.Kits.{Kit}
 use Rattle.journal_defs.specs.declared.Version.{Version}
 use Rattle.journal_defs.specs.Entries.{Entry}
-use Rattle.journal_defs.specs.Journals.{IsClosedAt, StandsBefore, closed_gate, record_bytes}
+use Rattle.journal_defs.specs.Journals.{IsClosedAt, LieBefore, closed_gate, record_bytes}
 use Rattle.journal_defs.proofs.Gates.{closed_gate_ends}
 use Rattle.journal_disk.specs.Disks.{EndsAt, HasLength, HasRest, StaysUntold}
 use Rattle.journal_rp.specs.Stages.{gate_of, len_of, version_of}
@@ -51,7 +51,7 @@ reads-idle c n (e ∷ es) = by (takes_up c n e) (reads-idle c (reads_one c n e) 
 
 -- where the gate after the entries is closed, they end there
 pub ends-at : (seen : Option (List ℕ)) (head : List ℕ) (es : List Entry) (gate : ℕ) → IsSome seen
-    → IfSome seen (λ file. StandsBefore head file es gate) → IfSome seen (λ file. IsClosedAt file gate) → EndsAt seen head es gate
+    → IfSome seen (λ file. LieBefore head file es gate) → IfSome seen (λ file. IsClosedAt file gate) → EndsAt seen head es gate
 ends-at None head es gate some stands closed = absurd cc
 ends-at (Some file) head es gate some stands closed = record {
   file = file;
@@ -66,7 +66,7 @@ always (Some file) p = p
 
 module _ (seen new : Option (List ℕ)) (may_leave : List ℕ → Type 0) (gate : ℕ)
     (ok : (head : List ℕ) (fs : List Entry) → EndsAt seen head fs gate → HasRest new may_leave head fs gate) where
-  rests-at : (head : List ℕ) (es : List Entry) → StaysUntold seen new → IfSome seen (λ file. StandsBefore head file es gate)
+  rests-at : (head : List ℕ) (es : List Entry) → StaysUntold seen new → IfSome seen (λ file. LieBefore head file es gate)
       → IfSome seen (λ file. IsClosedAt file gate) → IfSome new (λ file. HasRest new may_leave head es gate)
   rests-at head es untold stands closed = go seen refl untold
     where
@@ -76,7 +76,7 @@ module _ (seen new : Option (List ℕ)) (may_leave : List ℕ → Type 0) (gate 
           let some = subst (λ (p : Option (List ℕ)). IsSome p) (sym is) refl in
           always new (ok head es (ends-at seen head es gate some stands closed))
 
-  tells-at : (head : List ℕ) (es : List Entry) → IfSome seen (λ file. StandsBefore head file es gate)
+  tells-at : (head : List ℕ) (es : List Entry) → IfSome seen (λ file. LieBefore head file es gate)
       → IfSome seen (λ file. IsClosedAt file gate) → IsSome seen → IsSome new
   tells-at head es stands closed some =
       let has = ok head es (ends-at seen head es gate some stands closed) in

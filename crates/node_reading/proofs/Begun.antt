@@ -7,7 +7,7 @@ use Rattle.byte_defs.specs.Members.{has}
 use Rattle.kit_defs.specs.Kits.{IsKit, Kit, roster_of}
 use Rattle.journal_defs.specs.declared.Version.{Version}
 use Rattle.journal_defs.specs.declared.Version.TheVariants.{One, Two}
-use Rattle.journal_defs.specs.Journals.{StandsBefore, batch_limit}
+use Rattle.journal_defs.specs.Journals.{LieBefore, batch_limit}
 use Rattle.letter_laws.proofs.Addressees.{start_is_keyed}
 use Rattle.node_defs.specs.Casts.{Beginning, cast_of, from_start, setting_of}
 use Rattle.node_defs.specs.Nodes.{reads}
@@ -21,7 +21,7 @@ use Rattle.node_reading.specs.Reading.{HasRead, IsNotSetOut, too_little}
 
 pub nothing-read : (kit : Kit) (v : Version) (head : List ℕ) (b : Beginning) (lines : ℕ) (seen : Option (List ℕ)) (gate : ℕ) (hosts : Hosts)
     (counts : Counts) → AreHosts (cast_of kit v) kit b.from None hosts → ((p : ℕ) → count_in counts p ≡ b.before p) → gate ≡ b.place
-    → IfSome seen (λ file. StandsBefore head file [] gate) → HasRead (cast_of kit v) kit head b lines seen [] gate hosts counts
+    → IfSome seen (λ file. LieBefore head file [] gate) → HasRead (cast_of kit v) kit head b lines seen [] gate hosts counts
 unfolding reads
 nothing-read kit v head b lines seen gate hosts counts are before place stands = record {
   runs = refl;
@@ -60,7 +60,7 @@ start-set-out kit v held seen gate hosts counts is begun are none = record {
     everywhere (Some file) = tt
 
 -- the bytes before a place of the file lie before it
-before-place : (file : List ℕ) (place gate : ℕ) → place < length file → gate ≡ place → StandsBefore (take place file) file [] gate
+before-place : (file : List ℕ) (place gate : ℕ) → place < length file → gate ≡ place → LieBefore (take place file) file [] gate
 before-place file place gate within at =
     let head = length-take-le place file (omega (arith, within)) in
     record {
@@ -85,7 +85,7 @@ snap-set-out kit v t seen gate b begun there at = record {
 }
   where
     go : (o : Option (List ℕ)) → IfSome o (IsPlaceOf kit t)
-        → IfSome o (λ file. StandsBefore (head_in (cast_of kit v) (Some t) o) file [] gate)
+        → IfSome o (λ file. LieBefore (head_in (cast_of kit v) (Some t) o) file [] gate)
     go None is = tt
     go (Some file) is = before-place file t.place gate is.within at
 

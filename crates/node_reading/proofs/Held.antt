@@ -8,7 +8,7 @@ use Rattle.kit_defs.specs.Kits.{Kit}
 use Rattle.journal_defs.specs.declared.Version.{Version}
 use Rattle.journal_defs.specs.declared.Version.TheVariants.{One, Two}
 use Rattle.journal_defs.specs.Entries.{Entry}
-use Rattle.journal_defs.specs.Journals.{Header, ReadsAs, StandsBefore, closed_gate, header_bytes}
+use Rattle.journal_defs.specs.Journals.{Header, ReadsAs, LieBefore, closed_gate, header_bytes}
 use Rattle.journal_defs.specs.Crashes.{IsAtRest}
 use Rattle.journal_defs.proofs.Crashing.{not_open}
 use Rattle.journal_defs.proofs.Recording.{one_reading}
@@ -26,8 +26,8 @@ use Rattle.node_reading.specs.Reading.{Unread, no_disk, no_header}
 
 -- a journal that every crash leaves at rest has its entries before its gate
 rest-stands : (seen : Option (List ℕ)) (may_leave : List ℕ → Type 0) (head : List ℕ) (es : List Entry) (gate : ℕ)
-    → HasRest seen may_leave head es gate → IfSome seen (λ file. StandsBefore head file es gate)
-rest-stands seen may_leave head es gate has = subst (λ (o : Option (List ℕ)). IfSome o (λ file. StandsBefore head file es gate)) (sym has.reported)
+    → HasRest seen may_leave head es gate → IfSome seen (λ file. LieBefore head file es gate)
+rest-stands seen may_leave head es gate has = subst (λ (o : Option (List ℕ)). IfSome o (λ file. LieBefore head file es gate)) (sym has.reported)
     (record {
       rest = closed_gate ∷ has.rest.behind;
       parts = has.rest.parts;
@@ -66,19 +66,19 @@ module _ (kit : Kit) (v : Version) (old new : Option (List ℕ)) (may_leave : Li
     rests : IsSomeAnd old (λ file. file ≡ []) → HasRest new may_leave (cast_of kit v).header [] gate
     rests empty = subst (λ (w : Version). HasRest new may_leave (header_bytes w (header_in kit)) [] gate) (sym (kind empty)) (begun empty)
 
-    pub started-stands : IfSome old (λ file. file ≢ [] → StandsBefore (cast_of kit v).header file [] gate)
-        → IfSome new (λ file. StandsBefore (cast_of kit v).header file [] gate)
+    pub started-stands : IfSome old (λ file. file ≢ [] → LieBefore (cast_of kit v).header file [] gate)
+        → IfSome new (λ file. LieBefore (cast_of kit v).header file [] gate)
     started-stands first = go old untold rests only_read first
       where
         go : (o : Option (List ℕ)) → StaysUntold o new → (IsSomeAnd o (λ file. file ≡ []) → HasRest new may_leave (cast_of kit v).header [] gate)
             → (IsSomeAnd o (λ file. file ≢ []) → new ≡ o)
-            → IfSome o (λ file. file ≢ [] → StandsBefore (cast_of kit v).header file [] gate)
-            → IfSome new (λ file. StandsBefore (cast_of kit v).header file [] gate)
+            → IfSome o (λ file. file ≢ [] → LieBefore (cast_of kit v).header file [] gate)
+            → IfSome new (λ file. LieBefore (cast_of kit v).header file [] gate)
         go None none empty same there =
-            subst (λ (o : Option (List ℕ)). IfSome o (λ file. StandsBefore (cast_of kit v).header file [] gate)) (sym none) tt
+            subst (λ (o : Option (List ℕ)). IfSome o (λ file. LieBefore (cast_of kit v).header file [] gate)) (sym none) tt
         go (Some []) none empty same there = rest-stands new may_leave (cast_of kit v).header [] gate (empty refl)
         go (Some (b ∷ bs)) none empty same there =
-            subst (λ (o : Option (List ℕ)). IfSome o (λ file. StandsBefore (cast_of kit v).header file [] gate)) (sym (same (λ e. cc)))
+            subst (λ (o : Option (List ℕ)). IfSome o (λ file. LieBefore (cast_of kit v).header file [] gate)) (sym (same (λ e. cc)))
             (there (λ e. cc))
 
     pub started-holds : (es : List Entry) → IfSome new (λ file. ReadsAs (cast_of kit v).header file es) → HoldsAs kit v es old
@@ -100,7 +100,7 @@ module _ (kit : Kit) (v : Version) (old new : Option (List ℕ)) (may_leave : Li
 pub record IsStarted (v : Version) (h : Header) (old new : Option (List ℕ)) (may_leave : List ℕ → Type 0) (gate : ℕ) : Type 0 where
   pub begun : IsSomeAnd old (λ file. file ≡ []) → HasRest new may_leave (header_bytes Two h) [] gate
   pub kind : IsSomeAnd old (λ file. file ≡ []) → v ≡ Two
-  pub first : IfSome old (λ file. file ≢ [] → StandsBefore (header_bytes v h) file [] gate)
+  pub first : IfSome old (λ file. file ≢ [] → LieBefore (header_bytes v h) file [] gate)
   pub only_read : IsSomeAnd old (λ file. file ≢ []) → new ≡ old
   pub untold : StaysUntold old new
 

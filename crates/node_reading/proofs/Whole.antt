@@ -7,7 +7,7 @@ use Rattle.std.proofs.lemmas.List.{drop_at}
 use Rattle.kit_defs.specs.Kits.{Kit}
 use Rattle.journal_defs.specs.declared.Version.{Version}
 use Rattle.journal_defs.specs.Entries.{Entry}
-use Rattle.journal_defs.specs.Journals.{ReadsAs, StandsBefore, behind_gate, closed_gate, open_gate, record_bytes}
+use Rattle.journal_defs.specs.Journals.{ReadsAs, LieBefore, behind_gate, closed_gate, open_gate, record_bytes}
 use Rattle.journal_defs.specs.Crashes.{IsAtRest}
 use Rattle.journal_defs.proofs.Crashing.{not_open}
 use Rattle.journal_defs.proofs.Gates.{closed_gate_ends}
@@ -113,7 +113,7 @@ fresh-is-whole c lines file es place rest stops = go es stops.stands
     here = ap (λ (l : List ℕ). drop (length c.header) l) (rest.parts ∙ ap (λ (l : List ℕ). l ++ closed_gate ∷ rest.behind) (append-nil c.header))
         ∙ drop_at c.header (closed_gate ∷ rest.behind) (length c.header) refl
 
-    go : (fs : List Entry) → StandsBefore c.header file fs place → ⊥
+    go : (fs : List Entry) → LieBefore c.header file fs place → ⊥
     go [] stands =
         let bad = bad-is-open c (node_after c (from_start c) lines es) file place stops.bad in
         let at : place ≡ length c.header = stands.where_it_is ∙ ap (λ (l : List ℕ). length l) (append-nil c.header) in

@@ -4,7 +4,7 @@ use Rattle.sha2.specs.Sha256.{sha256}
 use Rattle.kit_defs.specs.Kits.{Kit}
 use Rattle.letter_laws.specs.Letters.{IsKeyed}
 use Rattle.journal_defs.specs.declared.Version.{Version}
-use Rattle.journal_defs.specs.Journals.{StandsBefore}
+use Rattle.journal_defs.specs.Journals.{LieBefore}
 use Rattle.node_defs.specs.Casts.{Cast, Beginning, cast_of, from_start, hosted_by, setting_of}
 use Rattle.node_defs.specs.Lives.{Found}
 use Rattle.node_defs.specs.Snapshots.{IsSnapshotFor, from_snapshot}
@@ -63,4 +63,4 @@ pub record IsSetOut (kit : Kit) (version : Version) (s : Option SnapSaid) (seen 
   pub few : (p : ℕ) → count_in counts p ≤ gate
   pub gate_is : gate ≡ (begins_by (cast_of kit version) s).place
   pub there : IfSome seen (HasItsPlace kit s)
-  pub stands : IfSome seen (λ file. StandsBefore (head_in (cast_of kit version) s seen) file [] gate)
+  pub stands : IfSome seen (λ file. LieBefore (head_in (cast_of kit version) s seen) file [] gate)

@@ -7,7 +7,7 @@ use Rattle.journal_defs.specs.declared.Version.{Version}
 use Rattle.journal_defs.specs.declared.Version.TheVariants.{One, Two}
 use Rattle.snapshot_defs.specs.declared.Version.TheVariants as images
 use Rattle.journal_defs.specs.Entries.{Entry}
-use Rattle.journal_defs.specs.Journals.{Header, ReadsAs, StandsBefore, behind_magic, magic}
+use Rattle.journal_defs.specs.Journals.{Header, ReadsAs, LieBefore, behind_magic, magic}
 use Rattle.journal_defs.specs.Crashes.{IsAtRest}
 use Rattle.journal_disk.specs.Disks.{StaysUntold}
 use Rattle.journal_rp.specs.Headers.{IsJournal}
@@ -32,7 +32,7 @@ HoldsAs kit version es (Some file) = IsNew version es file ⊎ ReadsAs (cast_of 
 -- A journal of this kind was started on a disk that held this. Where the disk reports, no entry is before the gate at this place, and what
 -- it is read as from then on is what it held.
 pub record IsBegun (kit : Kit) (version : Version) (held seen : Option (List ℕ)) (gate : ℕ) : Type 0 where
-  pub stands : IfSome seen (λ file. StandsBefore (cast_of kit version).header file [] gate)
+  pub stands : IfSome seen (λ file. LieBefore (cast_of kit version).header file [] gate)
   pub holds : (es : List Entry) → IfSome seen (λ file. ReadsAs (cast_of kit version).header file es) → HoldsAs kit version es held
   pub fresh : IsSomeAnd held (λ file. file ≡ []) → IfSome seen (IsAtRest (cast_of kit version).header [])
   pub kind : IsSomeAnd held (λ file. file ≡ []) → version ≡ Two

@@ -7,7 +7,7 @@ use Rattle.std.specs.Option.{IsSomeAnd}
 use Rattle.kit_defs.specs.Kits.{Kit}
 use Rattle.journal_defs.specs.declared.Version.{Version}
 use Rattle.journal_defs.specs.Entries.{Entry}
-use Rattle.journal_defs.specs.Journals.{IsClosedAt, StandsBefore}
+use Rattle.journal_defs.specs.Journals.{IsClosedAt, LieBefore}
 use Rattle.node_defs.specs.Lines.{Stop, NoMemory, DiskFailed, BadJournal}
 use Rattle.node_defs.specs.Casts.{Cast, Beginning, cast_of, from_start, entries_of}
 use Rattle.node_defs.specs.Nodes.{Node, takes_up}
@@ -32,7 +32,7 @@ pub record HasRead (c : Cast) (kit : Kit) (head : List ℕ) (b : Beginning) (lin
   pub fits : FitsFrom c b.from es
   pub hosts_are : AreHosts c kit (node_after c b lines es).now None hosts
   pub counted : (p : ℕ) → count_in counts p ≡ b.before p + length (entries_of p es)
-  pub stands : IfSome seen (λ file. StandsBefore head file es gate)
+  pub stands : IfSome seen (λ file. LieBefore head file es gate)
 
 -- One entry more was read, or there is none: the gate is closed.
 abbrev pub HasReadOn : Cast → Kit → List ℕ → Beginning → ℕ → Option (List ℕ) → List Entry → ℕ → Hosts → Counts → Bool → Type 0

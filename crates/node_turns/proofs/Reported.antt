@@ -15,7 +15,7 @@ use Rattle.node_traces.specs.Outside.{LinkSeen, LinkStep, LinkAnswered}
 use Rattle.node_traces.specs.Service.{Asked, HeardBy, one_asked}
 use Rattle.letting_laws.specs.Letting.{Fits, asked, reported_by, failed_by, edge, LetOut, HasBegun}
 use Rattle.node_service.specs.Answers.{HasAnswered}
-use Rattle.node_turns.specs.Letters.{tells_of, TellsNotes}
+use Rattle.node_turns.specs.Letters.{tells_of, ReportsNotes}
 use Rattle.letting_laws.proofs.Joined.{let-both, begun-after, begun-front, begun-with}
 
 -- ---- one note
@@ -166,7 +166,7 @@ no-link = record { sent = None; coming = None; faults = 0 }
 
 -- as the code has it: with the lines that follow
 pub tells-notes : (c : Cast) (at : ℕ → Process) (me : ℕ) (ns : List Note) (k : LinkSeen) (h i : List Asked) (old reported late new : List ℕ)
-    → LetOut c at (tells_of me ns) (edge k old [] h) (edge k reported [] i) → new ≡ reported ++ late → TellsNotes c at me ns h i old late new
+    → LetOut c at (tells_of me ns) (edge k old [] h) (edge k reported [] i) → new ≡ reported ++ late → ReportsNotes c at me ns h i old late new
 tells-notes c at me ns k h i old reported late new out is = record {
   reported = reported;
   out = λ link. subst (λ (t : List ℕ). LetOut c at (tells_of me ns) (edge link old [] h) (edge link t [] i)) (sym out.text)
@@ -177,7 +177,7 @@ tells-notes c at me ns k h i old reported late new out is = record {
 pub heard-notes : {V : Type 0} (heard : V → List Asked → Type 0) (service : V) (c : Cast) (at : ℕ → Process) (me : ℕ) (ns : List Note)
     (h : List Asked) (old reported late new : List ℕ)
     → ((k : LinkSeen) → HeardBy heard service (λ i. LetOut c at (tells_of me ns) (edge k old [] h) (edge k reported [] i))) → new ≡ reported ++ late
-    → HeardBy heard service (λ i. TellsNotes c at me ns h i old late new)
+    → HeardBy heard service (λ i. ReportsNotes c at me ns h i old late new)
 heard-notes heard service c at me ns h old reported late new out is =
     let any = out no-link in
     record { history = any.history; has = any.has; holds = tells-notes c at me ns no-link h any.history old reported late new any.holds is }

@@ -16,7 +16,7 @@ use Rattle.node_defs.specs.Nodes.{Leaving, Notes, leaving_of}
 use Rattle.node_traces.specs.Outside.{LinkSeen}
 use Rattle.node_traces.specs.Service.{Asked, HeardBy}
 use Rattle.letting_laws.specs.Letting.{reported_by, edge, LetOut, HasBegun}
-use Rattle.node_turns.specs.Letters.{letters_to, letters_in, sends_of, tells_of, LetsTurnOut, TellsNotes}
+use Rattle.node_turns.specs.Letters.{letters_to, letters_in, sends_of, tells_of, LetsTurnOut, ReportsNotes}
 use Rattle.letting_laws.proofs.Joined.{let-both, begun-after, begun-front}
 use Rattle.node_turns.proofs.Reported.{reported-anywhere}
 
@@ -67,7 +67,7 @@ pub turn-out : (c : Cast) (at : ℕ → Process) (me : ℕ) (o : defs.Outcome) (
     (ns : List Note)
     (first late lent old new : List ℕ) (h i : List Asked) → IsOutcome o r → sends ≡ r.sends.items → ns ≡ r.notes.items → first ≡ []
     → lent ≡ late → LetOut c at (sends_of me (letters_in sends)) (edge k [] first h) (edge l [] late h)
-    → TellsNotes c at me ns h i old lent new → LetsTurnOut c at (leaving_of me o) k l h i old new
+    → ReportsNotes c at me ns h i old lent new → LetsTurnOut c at (leaving_of me o) k l h i old new
 turn-out c at me o r k l sends ns first late lent old new h i is sends_are notes_are none lent_is sent reported =
     let out = reported.out k in
     let text = flat_map reported_by (zip (tells_of me ns) out.answers) in
@@ -110,7 +110,7 @@ pub turn-heard : {V : Type 0} (heard : V → List Asked → Type 0) (service : V
     (r : Outcome) (k l : LinkSeen) (sends : List Sending) (ns : List Note) (first late lent old new : List ℕ) (h : List Asked) → IsOutcome o r
     → sends ≡ r.sends.items → ns ≡ r.notes.items → first ≡ [] → lent ≡ late
     → LetOut c at (sends_of me (letters_in sends)) (edge k [] first h) (edge l [] late h)
-    → HeardBy heard service (λ i. TellsNotes c at me ns h i old lent new)
+    → HeardBy heard service (λ i. ReportsNotes c at me ns h i old lent new)
     → HeardBy heard service (λ i. LetsTurnOut c at (leaving_of me o) k l h i old new)
 turn-heard heard service c at me o r k l sends ns first late lent old new h is sends_are notes_are none lent_is sent reported = record {
   history = reported.history;

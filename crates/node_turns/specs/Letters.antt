@@ -34,7 +34,7 @@ link_seen sent coming faults link = record { sent = sent link; coming = coming l
 
 -- These notes of the process were reported: each has its line and after it what the service said of it, and they follow the text that there
 -- was; the service heard of them, one after the other. After them are these lines.
-pub record TellsNotes (c : Cast) (at : ℕ → Process) (me : ℕ) (notes : List Note) (heard hears : List Asked) (old late new : List ℕ) : Type 0 where
+pub record ReportsNotes (c : Cast) (at : ℕ → Process) (me : ℕ) (notes : List Note) (heard hears : List Asked) (old late new : List ℕ) : Type 0 where
   pub reported : List ℕ
   pub out : (link : LinkSeen) → LetOut c at (tells_of me notes) (edge link old [] heard) (edge link reported [] hears)
   pub whole : new ≡ reported ++ late

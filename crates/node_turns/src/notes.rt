@@ -7,7 +7,7 @@ ghost use Rattle.node_service.specs.Lines.{GoesOn};
 ghost use Rattle.node_traces.specs.Outside.{LinkSeen};
 ghost use Rattle.node_traces.specs.Service.{Asked, HeardBy};
 ghost use Rattle.letting_laws.specs.Letting.{edge, HasBegun, LetOut};
-ghost use Rattle.node_turns.specs.Letters.{TellsNotes, tells_of};
+ghost use Rattle.node_turns.specs.Letters.{ReportsNotes, tells_of};
 
 use member_events::Note;
 use node_service::{AnySigner, Hosted, Service, push_note};
@@ -63,7 +63,7 @@ fn tell_all<V: Service>(
     service: &mut V,
 ) -> Result<(), NoMemory>
     ensures reported { (c : Cast) (at : ℕ → Process) (h : List Asked) → V.heard service.old h → IsHosted c me (at me) process.now
-        → OnOk result (HeardBy V.heard service.new (λ i. TellsNotes c at me notes.now h i text.old.items late.now text.new.items)) }
+        → OnOk result (HeardBy V.heard service.new (λ i. ReportsNotes c at me notes.now h i text.old.items late.now text.new.items)) }
     ensures begun { (c : Cast) (at : ℕ → Process) (link : LinkSeen) (h : List Asked) → V.heard service.old h → IsHosted c me (at me) process.now
         → OnErr result (HeardBy V.heard service.new (λ i. HasBegun c at (tells_of me notes.now) link h link i)) }
     ensures grows { GoesOn text.old.items text.new.items }
@@ -87,7 +87,7 @@ pub(crate) fn tell_notes<V: Service>(
     service: &mut V,
 ) -> Result<(), NoMemory>
     ensures reported { (c : Cast) (at : ℕ → Process) (h : List Asked) → V.heard service.old h → IsHosted c me (at me) process.now
-        → OnOk result (HeardBy V.heard service.new (λ i. TellsNotes c at me notes.now h i text.old.items late.now text.new.items)) }
+        → OnOk result (HeardBy V.heard service.new (λ i. ReportsNotes c at me notes.now h i text.old.items late.now text.new.items)) }
     ensures begun { (c : Cast) (at : ℕ → Process) (link : LinkSeen) (h : List Asked) → V.heard service.old h → IsHosted c me (at me) process.now
         → OnErr result (HeardBy V.heard service.new (λ i. HasBegun c at (tells_of me notes.now) link h link i)) }
     ensures unchanged { OnErr result (text.new.items ≡ text.old.items) }

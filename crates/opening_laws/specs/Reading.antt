@@ -1,7 +1,7 @@
 -- How a node reads the entries of its journal, one after the other.
 use Rattle.std.specs.Prelude.{◌≡◌, ◌⊎◌, ℕ, ◌+◌, ◌==◌, if◌then◌else◌, Bool, true, false, List, [], ◌∷◌, ◌++◌, length, Some, None}
 use Rattle.journal_defs.specs.Entries.{Entry}
-use Rattle.journal_defs.specs.Journals.{StandsBefore, HasEntryAt, IsBrokenAt}
+use Rattle.journal_defs.specs.Journals.{LieBefore, HasEntryAt, IsBrokenAt}
 use Rattle.node_defs.specs.Lines.{BadJournal}
 use Rattle.node_defs.specs.Casts.{Cast, Beginning, entries_of}
 use Rattle.node_defs.specs.Nodes.{Node, reads, reads_one, takes_up, at_first}
@@ -39,7 +39,7 @@ IsBadAt c n file place = IsBrokenAt file place ⊎ ((e : Entry) × (next : ℕ) 
 -- The file has these bytes, after which the run begins, and then these entries before this place; the node takes them up; and what is at the
 -- place is no entry of this node.
 pub record BreaksReading (c : Cast) (b : Beginning) (lines : ℕ) (head file : List ℕ) (es : List Entry) (place : ℕ) : Type 0 where
-  pub stands : StandsBefore head file es place
+  pub stands : LieBefore head file es place
   pub runs : (after_reading c b lines es).stopped ≡ None
   pub gate : (after_reading c b lines es).gate ≡ place
   pub bad : IsBadAt c (after_reading c b lines es) file place

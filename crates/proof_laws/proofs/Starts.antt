@@ -15,7 +15,7 @@ use Rattle.chain_laws.specs.Reported.{proofs_in}
 use Rattle.chain_laws.proofs.Agreeing.{chain_is_installed, chain_is_of_all}
 use Rattle.chain_laws.proofs.Reported.{ShowsViews, one-more, tells-at}
 use Rattle.proof_defs.specs.Starts.{start_in, started_at, started_chain_of, started_from, reported_from}
-use Rattle.proof_laws.specs.Starts.{IsQuotedFrom, Start, StartTellsViews, start_behind, start_of, views_from}
+use Rattle.proof_laws.specs.Starts.{IsQuotedFrom, Start, StartsReportViews, start_behind, start_of, views_from}
 
 module _ (s : Setting) where
   reported-so : (n : ℕ) (v : View) (parts : List (List ℕ)) → ShowsViews (reported_from s n v parts) (v ∷ views_shown s v (proofs_in parts))
@@ -60,8 +60,8 @@ module _ (front : Front) (f : Family) (quoted : IsQuotedFrom front f) where
       → slice_get (views_from s start) (i + 1) ≡ Some b → IsInstalled f a) quoted.of_kit
       (λ i a b at next. chain_is_installed f start.view (proofs_in start.lines) i a b quoted.premises first quoted.own at next)
 
-pub start_tells_views : StartTellsViews
-start_tells_views bytes front e =
+pub starts_report_views : StartsReportViews
+starts_report_views bytes front e =
     let reported = started-tells (setting_of front.kit) front.line (parts_of front.rest) in
     record {
       end = reported.end;

@@ -52,7 +52,7 @@ pub record IsQuotedFrom (front : Front) (f : Family) : Type 0 where
 -- For bytes with a kit in front: the answer is the line of each view of the chain in order, and then at most the line of a stop. Where the
 -- first of these views is the one that every correct process with a view of its number has, so is each; and where a correct process has
 -- installed the first one, one has installed each but the last.
-pub record TellsViewsFrom (bytes : List ℕ) (front : Front) : Type 0 where
+pub record ReportsViewsFrom (bytes : List ℕ) (front : Front) : Type 0 where
   pub end : Answer
   pub ends : IsEnd end
   pub lines : started_chain_of bytes ≡ behind (flat_map view_line (views_from (setting_of front.kit) (start_behind front))) end
@@ -62,8 +62,8 @@ pub record TellsViewsFrom (bytes : List ℕ) (front : Front) : Type 0 where
       → slice_get (views_from (setting_of front.kit) (start_behind front)) i ≡ Some a
       → slice_get (views_from (setting_of front.kit) (start_behind front)) (i + 1) ≡ Some b → IsInstalled f a
 
-abbrev pub StartTellsViews : Type 0
-StartTellsViews = (bytes : List ℕ) (front : Front) → front_of bytes ≡ Ok front → TellsViewsFrom bytes front
+abbrev pub StartsReportViews : Type 0
+StartsReportViews = (bytes : List ℕ) (front : Front) → front_of bytes ≡ Ok front → ReportsViewsFrom bytes front
 
 -- ---- lines of a process
 

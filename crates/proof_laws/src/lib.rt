@@ -2,7 +2,7 @@
 #![tactic(auto)]
 
 ghost use Rattle.proof_defs.specs.Laws.{FrameShows, LinesAreAChain};
-ghost use Rattle.proof_laws.specs.Starts.{LinesGoOn, StartTellsViews};
+ghost use Rattle.proof_laws.specs.Starts.{LinesGoOn, StartsReportViews};
 
 /// The frame that is said of a view shows the view that the process installed next.
 pub fn frame_shows()
@@ -15,8 +15,8 @@ pub fn lines_are_a_chain()
 {}
 
 /// The answer to a chain that may begin at any view is the lines of its views, which are the group's where the first one is.
-pub fn start_tells_views()
-    ensures { StartTellsViews }
+pub fn starts_report_views()
+    ensures { StartsReportViews }
 {}
 
 /// Lines of a process from any view on that it installed are a chain that begins there.

@@ -6,11 +6,11 @@ use Rattle.store_defs.specs.Laws.{accepted_of}
 use Rattle.store_defs.specs.Votes.{Content, Valid}
 use Rattle.store_laws.proofs.Answers.{accepted_is_answer}
 use Rattle.store_laws.proofs.Voting.{votes_exactly}
-use Rattle.rampart_cli.specs.Reported.{AskTells, TellsAnswer}
+use Rattle.rampart_cli.specs.Reported.{AskReports, ReportsAnswer}
 
-pub ask_tells : (payload bytes : List ℕ) → AskTells payload bytes
+pub ask_reports : (payload bytes : List ℕ) → AskReports payload bytes
 unfolding ask_output
-ask_tells payload bytes kit q stands = record {
+ask_reports payload bytes kit q stands = record {
   written = rw (ask_output, stands) refl;
   exactly = votes_exactly (is_valid kit.scheme) kit.group (key_in q.keys) q.view payload q.replies;
   of_store = λ sv c served accepted.

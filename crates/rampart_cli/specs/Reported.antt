@@ -19,12 +19,12 @@ pub record IsServedBy (kit : Kit) (q : Question) (sv : Services) : Type 0 where
 -- For bytes with this question after this kit: its answer is written, which is an answer exactly where more than f members of the
 -- view vouch for one in valid replies, and then the least of these; and it is the store's answer to the payload, at this place of the group's
 -- one sequence of messages.
-pub record TellsAnswer (payload bytes : List ℕ) (kit : Kit) (q : Question) : Type 0 where
+pub record ReportsAnswer (payload bytes : List ℕ) (kit : Kit) (q : Question) : Type 0 where
   pub written : ask_output payload bytes ≡ (answer_text q.view.number (answered kit payload q), 0)
   pub exactly : AcceptsExactly (is_valid kit.scheme) kit.group (key_in q.keys) q.view payload q.replies
   pub of_store : (sv : Services) (c : Content) → IsServedBy kit q sv → answered kit payload q ≡ Some c
       → IsAnswerOf (accounts sv.family) q.view.number payload c
 
 -- what the answer to bytes says, where they have a question
-abbrev pub AskTells : List ℕ → List ℕ → Type 0
-AskTells payload bytes = (kit : Kit) (q : Question) → asked bytes ≡ Ok (kit, q) → TellsAnswer payload bytes kit q
+abbrev pub AskReports : List ℕ → List ℕ → Type 0
+AskReports payload bytes = (kit : Kit) (q : Question) → asked bytes ≡ Ok (kit, q) → ReportsAnswer payload bytes kit q

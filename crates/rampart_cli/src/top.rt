@@ -2,7 +2,7 @@ ghost use Rattle.std.specs.Prelude.{◌≡◌, ◌≢◌, ◌↔◌, ◌⊎◌, 
 ghost use Rattle.std.specs.Io.KnownBytes.{Appends, Consumes, Keeps};
 ghost use Rattle.rp_base.specs.Causes.{Rose};
 ghost use Rattle.replay_defs.specs.Reports.{report_of};
-ghost use Rattle.chain_laws.specs.Reported.{AnswerTells};
+ghost use Rattle.chain_laws.specs.Reported.{AnswerReports};
 ghost use Rattle.chain_words.specs.Running as chains;
 ghost use Rattle.chain_words.specs.Running.{Answered, HasStatus, ShownAndSays, ShownInPart, SomeShown};
 ghost use Rattle.audit_words.specs.Running as audits;
@@ -20,7 +20,7 @@ ghost use Rattle.node_loop.specs.Inputs.{TellInOrder, TellInOrderResuming, most_
 ghost use Rattle.rp_base.specs.Streams.{AppendsPrefix, WritesLine};
 ghost use Rattle.replay_words.specs.Answers.{Reported, ReportedInPart, Stopped, kit_of_order, schedule_of_number};
 ghost use Rattle.rampart_cli.specs.Hosts.{HasEndedWith, HasResumedAlone};
-ghost use Rattle.rampart_cli.specs.Reported.{AskTells};
+ghost use Rattle.rampart_cli.specs.Reported.{AskReports};
 ghost use Rattle.rampart_cli.specs.Top.{Asks, AskAny, AskAudit, AskHost};
 
 use crate::asking::run_ask;
@@ -229,7 +229,7 @@ pub fn rampart<S: Source, K: Sink, D: Disk, L: Link>(
     // chain, whatever the status: the answer to what was read; all of it or its beginning was written. Where a kit was read, it is the
     // line of each view of a chain and at most one line more; and these are the views of the group, where the proofs quote its correct
     // processes truly.
-    ensures views { Asks words.now Chain → (read : List ℕ) → Consumes (S.left input.old) (S.left input.new) read → AnswerTells read }
+    ensures views { Asks words.now Chain → (read : List ℕ) → Consumes (S.left input.old) (S.left input.new) read → AnswerReports read }
 
     // ask: an input that has a question gives 0, and one that has a fault gives 7, where memory is left and nothing failed. No status but
     // 0, 1, 3, 4 and 7 comes.
@@ -246,7 +246,7 @@ pub fn rampart<S: Source, K: Sink, D: Disk, L: Link>(
     // of the view gave one in valid replies; and this is the store's, where a correct process installed the view and the valid replies of
     // correct processes are their own.
     ensures accepted { (payload : List ℕ) → Asks words.now (Ask payload)
-        → (read : List ℕ) → Consumes (S.left input.old) (S.left input.new) read → AskTells payload read }
+        → (read : List ℕ) → Consumes (S.left input.old) (S.left input.new) read → AskReports payload read }
 
     // audit: an input with findings gives 0, and one without them gives the status of the reason, where memory is left and nothing failed.
     // No status but 0, 1, 3, 4, 7 and 8 comes.

@@ -1,5 +1,5 @@
 pub mod Players
-pub mod Standing
+pub mod ProcessReport
 pub mod Questions
 pub mod Ending
 pub mod Runs

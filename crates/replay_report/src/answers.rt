@@ -6,7 +6,7 @@ ghost use Rattle.replay_defs.specs.Worlds.{family_of};
 ghost use Rattle.replay_questions.specs.Worlds.{Shows};
 ghost use Rattle.replay_report.specs.Answered.{AreAnswers};
 
-use crate::standings::{accounts_of, numbers_of};
+use crate::process_reports::{accounts_of, numbers_of};
 use group_questions::{agree, bounded};
 use replay_questions::{World, honest};
 use report_lines::Answers;

@@ -2,8 +2,8 @@
 #![tactic(auto)]
 
 mod answers;
+mod process_reports;
 mod reporting;
-mod standings;
 
 pub use replay_questions::{Reported, World, WorldFault};
 pub use reporting::report;

@@ -12,7 +12,7 @@ ghost use Rattle.replay_questions.specs.Worlds.{Shows};
 ghost use Rattle.replay_report.specs.Lines.{middle_lines};
 
 use crate::answers::answers_of;
-use crate::standings::standing_of;
+use crate::process_reports::report_of;
 use replay_questions::{Player, Refused, World};
 use report_lines::{
     push_answers, push_block, push_head, push_process, push_refused, push_refused_count,
@@ -35,9 +35,9 @@ fn push_player(out: &mut Vec<u8>, player: &Player, spent: &[Pid]) -> Result<(), 
     ensures { (s : Setting) (c : worlds.Player) → Plays s player.now c
         → OnOk result (out.new.items ≡ out.old.items ++ plain.block spent.now c.now) }
 {
-    let standing = standing_of(player);
-    let is_spent = spent.contains(&standing.account.me);
-    push_block(out, &standing, is_spent)
+    let report = report_of(player);
+    let is_spent = spent.contains(&report.account.me);
+    push_block(out, &report, is_spent)
 }
 
 fn push_players(out: &mut Vec<u8>, players: &[Player], spent: &[Pid]) -> Result<(), NoMemory>
@@ -55,7 +55,7 @@ fn push_player_short(out: &mut Vec<u8>, player: &Player) -> Result<(), NoMemory>
     ensures { (s : Setting) (c : worlds.Player) → Plays s player.now c
         → OnOk result (out.new.items ≡ out.old.items ++ plain.process_line c.now) }
 {
-    push_process(out, &standing_of(player))
+    push_process(out, &report_of(player))
 }
 
 fn push_players_short(out: &mut Vec<u8>, players: &[Player]) -> Result<(), NoMemory>

@@ -11,7 +11,7 @@ use Rattle.replay_defs.specs.Pieces.{Reading, WasFed, AreRead, HasGiven, IsShort
 use Rattle.schedule_laws.proofs.Headers.{header_takes}
 use Rattle.schedule_laws.proofs.Events.{event_takes}
 use Rattle.schedule_laws.proofs.Behind.{event_shrinks}
-use Rattle.schedule_laws.proofs.Pieces.{nothing_taken, front_stands}
+use Rattle.schedule_laws.proofs.Pieces.{nothing_taken, reading_ignores_rest}
 
 -- ---- events
 
@@ -46,7 +46,7 @@ pub record HasHeader (h : Header) (fed : List ℕ) : Type 0 where
 longer : (h : Header) (front more : List ℕ) → HasHeader h front → HasHeader h (front ++ more)
 longer h front more has = record {
   rest = has.rest ++ more;
-  read = (front_stands (roles_of h.processes) 0 front more has.rest).0 h has.read;
+  read = (reading_ignores_rest (roles_of h.processes) 0 front more has.rest).0 h has.read;
 }
 
 pub header_of : (r : Reading) (fed : List ℕ) (es : List ScheduleEvent) (h : Header) → WasFed r fed es → r.header ≡ Some h → HasHeader h fed

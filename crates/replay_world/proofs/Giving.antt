@@ -35,7 +35,7 @@ use Rattle.reported_defs.specs.Reported.{takes_in}
 use Rattle.happenings.specs.declared.reported.Handed.{Handed}
 use Rattle.happenings.specs.declared.reported.Reported.{Reported}
 use Rattle.happenings.specs.Reported.{handed, WasReported}
-use Rattle.replay_world.specs.Telling.{TellsStep}
+use Rattle.replay_world.specs.Telling.{ReportsStep}
 use Rattle.replay_world.proofs.Saying.{takes_placed}
 use Rattle.replay_world.proofs.Seats.{FindsAlike, PlacedAt, finds_alike}
 use Rattle.replay_world.proofs.HandedOver.{passes, passes_parts, event_passes, mark_adds, and_swap}
@@ -104,7 +104,7 @@ given h old stepped v at i ev r shows is steps same carries keeps =
 -- what came of it is told
 pub given_tells : (h : Header) (stepped : World) (v : plain.World) (at : ℕ) (e : group.Event) (r : Outcome) (what : Handed) (first : ℕ)
     (old new : Reported)
-    → Given h stepped v at e r → length v.frames ≡ first → TellsStep old at what first r new
+    → Given h stepped v at e r → length v.frames ≡ first → ReportsStep old at what first r new
     → WasReported old (takes_in (setting_of h) v at (handed what) e) new
 given_tells h stepped v at e r what first old new g counted step =
     let P : List defs.Happening → Type 0 = λ xs. WasReported old xs new in

@@ -20,8 +20,8 @@ abbrev pub frame_count : World → ℕ
 frame_count w = length w.traffic.frames.items
 
 -- what came of an event at a process is reported
-abbrev pub TellsStep : Reported → ℕ → Handed → ℕ → Outcome → Reported → Type 0
-TellsStep old p what first r new = (o : group.Outcome) → IsOutcome o r → WasReported old (Takes p (handed what) first (seen o) ∷ []) new
+abbrev pub ReportsStep : Reported → ℕ → Handed → ℕ → Outcome → Reported → Type 0
+ReportsStep old p what first r new = (o : group.Outcome) → IsOutcome o r → WasReported old (Takes p (handed what) first (seen o) ∷ []) new
 
 -- of a world that this one shows, this is reported
 abbrev pub ReportsOf : (Header → plain.World → List Happening) → World → Reported → Reported → Type 0

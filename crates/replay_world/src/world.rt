@@ -11,7 +11,7 @@ ghost use Rattle.schedule_file.specs.Views as views;
 ghost use Rattle.happenings.specs.Reported.{handed as handed_of, WasReported};
 ghost use Rattle.reported_defs.specs.Reported as reported_defs;
 ghost use Rattle.replay_world.specs.Handing.{bytes_in, Marks};
-ghost use Rattle.replay_world.specs.Telling.{TellsStep, ReportsOf, arrives_or_lost, frame_count, oldest_tells};
+ghost use Rattle.replay_world.specs.Telling.{ReportsStep, ReportsOf, arrives_or_lost, frame_count, oldest_tells};
 ghost use Rattle.replay_world.specs.Stepping.{StepsAt, Refuses, Spends};
 
 use crate::fault::WorldFault;
@@ -168,7 +168,7 @@ fn tell(
     outcome: Outcome,
 ) -> Result<Vec<Sending>, NoMemory>
     ensures sends { IfOk result (λ sends. sends ≡ outcome.sends) }
-    ensures tells { OnOk result (TellsStep reported.old at handed first outcome reported.new) }
+    ensures tells { OnOk result (ReportsStep reported.old at handed first outcome reported.new) }
 {
     if !reported.is_asked() {
         let (_signed, sends, _notes) = outcome.into_parts();
@@ -434,7 +434,7 @@ impl World {
         outcome: Outcome,
         reported: &mut Reported,
     ) -> Result<(), WorldFault>
-        ensures tells { OnOk result (TellsStep reported.old me handed (frame_count self.old) outcome reported.new) }
+        ensures tells { OnOk result (ReportsStep reported.old me handed (frame_count self.old) outcome reported.new) }
         ensures notes { OnOk result (Notes self.old self.new me outcome) }
         ensures too_much { IfErr result (NotesTooMuch self.old me outcome) }
         ensures count { OnOk result (count_of self.new ≡ count_of self.old) }

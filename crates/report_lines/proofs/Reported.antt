@@ -14,7 +14,7 @@ use Rattle.group_defs.specs.Accounts.{account_of}
 use Rattle.replay_defs.specs.Reports.{process_line, view_line, message_lines, liar_line, spent_line, halted_line, block}
 use Rattle.accounts.specs.Views.{account}
 use Rattle.view_phases.specs.Phases.{word}
-use Rattle.report_lines.specs.declared.standing.Standing.{Standing}
+use Rattle.report_lines.specs.declared.process_report.ProcessReport.{ProcessReport}
 use Rattle.report_lines.specs.Phases.{phase_name}
 use Rattle.report_lines.specs.AsReported.{IsAsReported, halted_text}
 use Rattle.report_lines.proofs.Pieces.{behind}
@@ -24,7 +24,7 @@ pub lengths-same : {A B X : Type 0} (inner : X → List A) (f : A → B) (xs : L
 lengths-same inner f [] = refl
 lengths-same inner f (x ∷ xs) = λ i. length-map (inner x) f i ∷ lengths-same inner f xs i
 
-module _ (t : Standing) (p : Process) (so : IsAsReported t p) where
+module _ (t : ProcessReport) (p : Process) (so : IsAsReported t p) where
   abbrev of : reported.Account
   of = account t.account.now
 

@@ -7,11 +7,11 @@ use Rattle.group_defs.specs.Settle.{phase_of}
 use Rattle.group_defs.specs.Accounts.{account_of}
 use Rattle.view_phases.specs.Phases.{word}
 use Rattle.accounts.specs.Views.{account}
-use Rattle.report_lines.specs.declared.standing.Standing.{Standing}
+use Rattle.report_lines.specs.declared.process_report.ProcessReport.{ProcessReport}
 
 -- The process is so: its account, its phase, how many statements it signed, the signers with a kept conflict, and where it has
 -- halted, how many places it delivered and the cut.
-pub record IsAsReported (t : Standing) (p : Process) : Type 0 where
+pub record IsAsReported (t : ProcessReport) (p : Process) : Type 0 where
   pub account : account_of p ≡ account t.account.now
   pub phase : phase_of p ≡ word t.phase
   pub signed : length p.signed ≡ t.signed

@@ -5,13 +5,13 @@
 mod answers;
 mod heads;
 mod histories;
+mod process_report;
 mod processes;
 mod refusals;
-mod standing;
 mod words;
 
 pub use answers::{Answers, push_answers};
 pub use heads::{push_head, push_refused_count};
+pub use process_report::ProcessReport;
 pub use processes::{push_block, push_process};
 pub use refusals::{frame_word, push_refused, refusal_word, update_word};
-pub use standing::Standing;

@@ -11,7 +11,7 @@ ghost use Rattle.report_lines.specs.Phases.{phase_name};
 ghost use Rattle.report_lines.specs.AsReported.{IsAsReported, halted_text};
 
 use crate::histories::{push_deliveries, push_views};
-use crate::standing::Standing;
+use crate::process_report::ProcessReport;
 use crate::words::{end_line, push_number_word, push_word};
 use accounts::Delivered;
 use rp_base::{NoMemory, Pid, PidSet};
@@ -63,14 +63,14 @@ fn push_counts(out: &mut Vec<u8>, views: u64, delivered: u64, signed: u64) -> Re
 
 /// The first line of a process: its number and its phase, how many views it installed, how many messages it delivered in them, and how
 /// many statements it signed.
-pub fn push_process(out: &mut Vec<u8>, standing: &Standing<'_>) -> Result<(), NoMemory>
-    ensures { (p : Process) → IsAsReported standing.now p → OnOk result (out.new.items ≡ out.old.items ++ plain.process_line p) }
+pub fn push_process(out: &mut Vec<u8>, report: &ProcessReport<'_>) -> Result<(), NoMemory>
+    ensures { (p : Process) → IsAsReported report.now p → OnOk result (out.new.items ≡ out.old.items ++ plain.process_line p) }
 {
-    let reported = standing.account;
+    let reported = report.account;
     let views = reported.views.as_slice().len() as u64;
     let delivered = delivered_in_all(&reported.delivered)?;
-    push_name(out, reported.me, standing.phase)?;
-    push_counts(out, views, delivered, standing.signed.into())?;
+    push_name(out, reported.me, report.phase)?;
+    push_counts(out, views, delivered, report.signed.into())?;
     Ok(())
 }
 
@@ -120,17 +120,21 @@ fn push_halted(out: &mut Vec<u8>, me: Pid, halted: Option<(u16, u16)>) -> Result
 }
 
 /// All lines of a process: its first one, its views, what it delivered, its liars, whether its key was spent, and where it halted.
-pub fn push_block(out: &mut Vec<u8>, standing: &Standing<'_>, spent: bool) -> Result<(), NoMemory>
-    ensures { (keys_spent : List ℕ) (p : Process) → has keys_spent p.me ≡ spent → IsAsReported standing.now p
+pub fn push_block(
+    out: &mut Vec<u8>,
+    report: &ProcessReport<'_>,
+    spent: bool,
+) -> Result<(), NoMemory>
+    ensures { (keys_spent : List ℕ) (p : Process) → has keys_spent p.me ≡ spent → IsAsReported report.now p
         → OnOk result (out.new.items ≡ out.old.items ++ plain.block keys_spent p) }
 {
-    let reported = standing.account;
+    let reported = report.account;
     let me = reported.me;
-    push_process(out, standing)?;
+    push_process(out, report)?;
     push_views(out, me, &reported.views)?;
     push_deliveries(out, me, &reported.delivered)?;
-    push_liars(out, me, standing.liars)?;
+    push_liars(out, me, report.liars)?;
     push_spent(out, me, spent)?;
-    push_halted(out, me, standing.halted)?;
+    push_halted(out, me, report.halted)?;
     Ok(())
 }

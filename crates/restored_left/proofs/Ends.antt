@@ -5,8 +5,8 @@ use Rattle.std.specs.List.{AllByRecursion}
 use Rattle.std.proofs.lemmas.List.{append_assoc, append_cancel_right, map-append}
 use Rattle.message_defs.specs.Limits.{most_places}
 use Rattle.group_defs.specs.Process.{Delivered, places_in}
-use Rattle.group_defs.specs.Accounts.{StandsByPlace}
-use Rattle.kept_images.specs.Facts.{StandByPlace}
+use Rattle.group_defs.specs.Accounts.{IsByPlace}
+use Rattle.kept_images.specs.Facts.{AreByPlace}
 use Rattle.member_state.specs.Bounds.{AreFew}
 use Rattle.pool_laws.proofs.Members.{Mem, All-mem, mem-append, mem-behind, mem-map}
 use Rattle.pool_laws.proofs.Places.{index-is, length-snoc, slice_get-last}
@@ -72,8 +72,8 @@ last-two {A = A} (x ∷ y ∷ es) (suc n) d e =
 
 -- ---- what was delivered in one of the views
 
-pub few-at : (lists : List (List Delivered)) (ds : List Delivered) → Mem ds lists → StandByPlace lists → AreFew ds
-few-at lists ds m placed = few-of ds (All-mem StandsByPlace lists ds placed.by_place m)
+pub few-at : (lists : List (List Delivered)) (ds : List Delivered) → Mem ds lists → AreByPlace lists → AreFew ds
+few-at lists ds m placed = few-of ds (All-mem IsByPlace lists ds placed.by_place m)
     (All-mem (λ (es : List Delivered). places_in es ≤ most_places) lists ds placed.few m)
 
 -- so many messages are at most 16,384

@@ -7,14 +7,14 @@ use Rattle.std.proofs.lemmas.List.Concat.{length-flat_map}
 use Rattle.std.proofs.lemmas.List.Sums.{sum_by-le}
 use Rattle.message_defs.specs.Limits.{most_places}
 use Rattle.group_defs.specs.Process.{Delivered, places_in}
-use Rattle.group_defs.specs.Accounts.{StandsByPlace, at_place}
+use Rattle.group_defs.specs.Accounts.{IsByPlace, at_place}
 use Rattle.member_state.specs.Bounds.{AreFew}
 use Rattle.pool_laws.proofs.Members.{mem-All, All-mem}
 use Rattle.pool_laws.proofs.Places.{mem-range}
 use Rattle.snapshot_defs.specs.Ranges.{EachFrom}
 
 -- at most 16 messages at each place
-pub few-of : (ds : List Delivered) → StandsByPlace ds → places_in ds ≤ most_places → AreFew ds
+pub few-of : (ds : List Delivered) → IsByPlace ds → places_in ds ≤ most_places → AreFew ds
 few-of ds by few =
     let each = mem-All (λ k. length (at_place k ds) ≤ 16) (range_with_len 0 (places_in ds))
     (λ k m. (by.batches k (let at = mem-range 0 (places_in ds) k m in omega (arith, at))).1) in

@@ -5,7 +5,7 @@
 mod past;
 
 pub use kept_images::{
-    are_accepted, are_conflicts, are_own, are_perceived, count_places, is_halted_so, stand_by_place,
+    are_accepted, are_by_place, are_conflicts, are_own, are_perceived, count_places, is_halted_so,
 };
 pub use member_state::{Account, ClaimList, Conflicts, ProcessState, SaidBefore, pair_at};
 pub use past::{Left, copied, left_in};

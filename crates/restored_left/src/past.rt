@@ -8,7 +8,7 @@ ghost use Rattle.snapshot_defs.specs.Ranges.{IsImage};
 ghost use Rattle.snapshot_defs.specs.declared.Version.TheVariants.{Two};
 ghost use Rattle.snapshot_rp.specs.Views.{delivered as plain, image as image_as, left_view};
 ghost use Rattle.claim_hearing.specs.Hearing.{Shares};
-ghost use Rattle.kept_images.specs.Facts.{StandByPlace};
+ghost use Rattle.kept_images.specs.Facts.{AreByPlace};
 ghost use Rattle.restored_past.specs.Parts.{heard_in};
 ghost use Rattle.member_state.specs.Parts.{all_signed, IsRanged};
 ghost use Rattle.restored_past.specs.Keeping.{KeepsOne};
@@ -66,7 +66,7 @@ fn heard_before<V: Scheme>(
 // What was delivered in the view that was left last: the last list but one.
 fn delivered_before(lists: &[Vec<Delivered>]) -> &[Delivered]
     ensures before { (rest : _) (ds last : _) → map (λ ds. map plain ds.items) lists.now ≡ rest ++ ds ∷ last ∷ [] → map plain result.now ≡ ds }
-    ensures few { StandByPlace (map (λ ds. map plain ds.items) lists.now) → AreFew (map plain result.now) }
+    ensures few { AreByPlace (map (λ ds. map plain ds.items) lists.now) → AreFew (map plain result.now) }
 {
     match lists.split_last() {
         Some((_, before)) => match before.last() {
@@ -104,7 +104,7 @@ fn archive_after<V: Scheme>(
     past: Past,
 ) -> Result<Option<Archive>, NoMemory>
     requires spelled { IsImage Two (image_as image.now) }
-    requires placed { StandByPlace (image_as image.now).delivered }
+    requires placed { AreByPlace (image_as image.now).delivered }
     requires order { past.view.number ≡ length past.archive.commits }
     ensures exact { (s : Setting) (xs : _) → Shares s (V.valid judge.now.scheme.now) judge.now.group.now judge.now.roster.now
         → (image_as image.now).left ≡ xs ++ left_view last.now ∷ [] → past.view ≡ behind s.genesis xs → IsLeft s past.view (left_view last.now)
@@ -131,7 +131,7 @@ fn archive_of<V: Scheme>(
     earlier: &[LeftView],
 ) -> Result<Option<Archive>, NoMemory>
     requires spelled { IsImage Two (image_as image.now) }
-    requires placed { StandByPlace (image_as image.now).delivered }
+    requires placed { AreByPlace (image_as image.now).delivered }
     requires number { genesis.number ≡ 0 }
     requires parts { (image_as image.now).left ≡ map left_view earlier.now ++ left_view last.now ∷ [] }
     ensures exact { (s : Setting) → Judges s (V.valid judge.now.scheme.now) judge.now.group.now judge.now.roster.now genesis
@@ -166,7 +166,7 @@ fn archive_in<V: Scheme>(
     image: &Image,
 ) -> Result<Option<Archive>, NoMemory>
     requires spelled { IsImage Two (image_as image.now) }
-    requires placed { StandByPlace (image_as image.now).delivered }
+    requires placed { AreByPlace (image_as image.now).delivered }
     requires number { genesis.number ≡ 0 }
     ensures exact { (s : Setting) → Judges s (V.valid judge.now.scheme.now) judge.now.group.now judge.now.roster.now genesis
         → AreLeft s genesis (image_as image.now).left → IfOk result (λ r. IsTrue (is_some r) ↔ IsLeftSo s (image_as image.now)) }
@@ -199,7 +199,7 @@ pub fn left_in<V: Scheme>(
     image: &Image,
 ) -> Result<Option<Left>, NoMemory>
     requires spelled { IsImage Two (image_as image.now) }
-    requires placed { StandByPlace (image_as image.now).delivered }
+    requires placed { AreByPlace (image_as image.now).delivered }
     requires number { genesis.now.number ≡ 0 }
     ensures exact { (s : Setting) → Judges s (V.valid judge.now.scheme.now) judge.now.group.now judge.now.roster.now genesis.now
         → IfOk result (λ r. IsTrue (is_some r) ↔ IsLeftSo s (image_as image.now)) }

@@ -8,6 +8,6 @@ mod reported;
 pub use present::{Present, present_in};
 pub use reported::is_reported;
 pub use restored_left::{
-    Account, Archive, ClaimList, Conflicts, Judge, Left, Pool, ProcessState, SaidBefore, asked_in,
-    claims_of, conflicts_of, installed, left_in, pair_at, said_in, stand_by_place,
+    Account, Archive, ClaimList, Conflicts, Judge, Left, Pool, ProcessState, SaidBefore,
+    are_by_place, asked_in, claims_of, conflicts_of, installed, left_in, pair_at, said_in,
 };

@@ -2,12 +2,12 @@
 ghost use Rattle.std.specs.Prelude.{◌≡◌, ◌≢◌, ◌↔◌, ◌<◌, ◌≤◌, ◌++◌, ◌∷◌, [], ℕ, Some, length, map, is_some, All, AllPairs, IfOk, IfSome, IsTrue, IsFalse};
 ghost use Rattle.group_defs.specs.Views.{is_member};
 ghost use Rattle.group_defs.specs.Process.{Setting, Process, keyed, places_in};
-ghost use Rattle.group_defs.specs.Accounts.{StandsByPlace};
+ghost use Rattle.group_defs.specs.Accounts.{IsByPlace};
 ghost use Rattle.image_defs.specs.Images.{process_of, view_behind as behind};
 ghost use Rattle.image_defs.specs.Kept.{AreHeard};
 ghost use Rattle.group_defs.specs.Certified.{is_ended};
 ghost use Rattle.own_place.specs.Owns.{HasDelivered};
-ghost use Rattle.restored_left.specs.Facts.{IsDecidedSo, IsHaltedSo, Shares, SignedOnce, StandByPlace, IsInView, IsOwnSoFar, heard_in};
+ghost use Rattle.restored_left.specs.Facts.{IsDecidedSo, IsHaltedSo, Shares, SignedOnce, AreByPlace, IsInView, IsOwnSoFar, heard_in};
 ghost use Rattle.restored_left.specs.Members.{IsIn};
 ghost use Rattle.snapshot_defs.specs.Ranges.{IsImage};
 ghost use Rattle.snapshot_defs.specs.declared.Version.TheVariants.{Two};
@@ -49,7 +49,7 @@ fn hold(inside: bool, placed: bool, paid: bool) -> bool
 
 // Whether the pool shows what was delivered in its view, at so many places, and only a member delivered.
 fn is_shown(pool: &Pool, me: Pid, delivered: &[Delivered], places: u16) -> bool
-    requires by { StandsByPlace (map delivered_as delivered.now) }
+    requires by { IsByPlace (map delivered_as delivered.now) }
     requires places { places ≡ places_in (map delivered_as delivered.now) }
     ensures { IsTrue result ↔ IsShown pool.now.pool me (map delivered_as delivered.now) }
 {
@@ -104,7 +104,7 @@ fn shown(
     places: u16,
     signed: &[KeptClaim],
 ) -> Result<Option<Pool>, NoMemory>
-    requires by { StandsByPlace (map delivered_as delivered.now) }
+    requires by { IsByPlace (map delivered_as delivered.now) }
     requires places { places ≡ places_in (map delivered_as delivered.now) }
     ensures same { IfOk result (λ r. IfSome r (λ again. again ≡ pool)) }
     ensures exact { IfOk result (λ r. IsTrue (is_some r) ↔ (IsShown pool.pool me (map delivered_as delivered.now)
@@ -129,7 +129,7 @@ fn pool_in<V: Scheme>(
     delivered: &[Delivered],
 ) -> Result<Option<Pool>, NoMemory>
     requires members { length own.now.counts.items ≡ length view.now.members }
-    requires by { StandsByPlace (map delivered_as delivered.now) }
+    requires by { IsByPlace (map delivered_as delivered.now) }
     requires places { own.now.delivered ≡ places_in (map delivered_as delivered.now) }
     ensures heard { IfOk result (λ r. IfSome r (λ pool. pool.pool ≡ heard_in view.now image.now.heard.items)) }
     ensures exact { (s : Setting) (p : Process) → Shares s (V.valid judge.now.scheme.now) judge.now.group.now judge.now.roster.now
@@ -217,7 +217,7 @@ pub fn present_in<V: Scheme>(
     earlier: &[Vec<Delivered>],
 ) -> Result<Option<Present>, NoMemory>
     requires spelled { IsImage Two (image_as image.now) }
-    requires placed { StandByPlace (image_as image.now).delivered }
+    requires placed { AreByPlace (image_as image.now).delivered }
     requires parts { (image_as image.now).delivered ≡ map (λ ds. map delivered_as ds.items) earlier.now ++ map delivered_as delivered.now ∷ [] }
     ensures exact { (s : Setting) → Shares s (V.valid judge.now.scheme.now) judge.now.group.now judge.now.roster.now
         → view.now ≡ behind s.genesis (image_as image.now).left

@@ -12,9 +12,9 @@ use Rattle.group_defs.specs.Views.{View}
 use Rattle.group_defs.specs.Process.{Setting, Letter, Delivered, Process, start, views_of, places_in}
 use Rattle.group_defs.specs.Settle.{decide, deliver, settle}
 use Rattle.group_defs.specs.Events.{Turn, EventFault, HaltedNow, refusal, refusals, signing, after, run}
-use Rattle.group_defs.specs.Accounts.{Account, account_of, IsPrefixOf, delivered_in, messages_in, of_sender, group_of, AgreesWith, StandsByPlace, HaveSameBatches, ArePlaced, IsOnce, IsInOrder}
+use Rattle.group_defs.specs.Accounts.{Account, account_of, IsPrefixOf, delivered_in, messages_in, of_sender, group_of, AgreesWith, IsByPlace, HaveSameBatches, ArePlaced, IsOnce, IsInOrder}
 use Rattle.group_defs.specs.Family.{Correct, Family, end_of, ends, accounts, claims_in, handed_to}
-use Rattle.group_defs.specs.Laws.{Premises, IsOneView, StoodSo, SettledSo, Decides, LawsOfViewThen, StandsBefore, IsFrontOf, AtTheCut, settlings, settlings_from}
+use Rattle.group_defs.specs.Laws.{Premises, IsOneView, StoodSo, SettledSo, Decides, LawsOfViewThen, IsEarlier, IsFrontOf, AtTheCut, settlings, settlings_from}
 use Rattle.safety_laws.proofs.Agreeing.{one_batch, one_payload}
 use Rattle.safety_laws.proofs.AllAgree.{Part, nothing, part, something}
 use Rattle.safety_laws.proofs.ByPlace.{none-there, nothing-stands, view-stands, views-same}
@@ -101,7 +101,7 @@ module _ (early late : Family) (front : IsFrontOf early late) (premises : Premis
     pub before : Correct
     pub behind : Correct
     pub there : Mem behind late.correct
-    pub stands : StandsBefore before behind
+    pub stands : IsEarlier before behind
     pub is : end_of late.setting before ≡ p
 
   then-of : (p : Process) → Mem p (ends early) → Then p
@@ -123,14 +123,14 @@ module _ (early late : Family) (front : IsFrontOf early late) (premises : Premis
       (c'.0, mem-Contains late.correct c'.0 c'.1, mem-Contains (settlings late c'.0) q (subst (Mem q) same more))
 
   -- what each step keeps was so at the cut
-  kept-then : (c c' : Correct) → StandsBefore c c' → (P : Process → Type 0) → Keeps late.setting (handed_to c'.turns) P
+  kept-then : (c c' : Correct) → IsEarlier c c' → (P : Process → Type 0) → Keeps late.setting (handed_to c'.turns) P
       → P (start late.setting c.me c.batch_limit) → P (end_of late.setting c)
   kept-then c c' b P k so = turns-keep late.setting (handed_to c'.turns) P k c.turns
       (unfold AreFrom in λ d m. subst (Mem d) (sym (flat_map-append (λ (t : Turn). claims_in t.event) c.turns b.2.0) ∙ ap handed_to b.2.1)
       (mem-append (handed_to c.turns) (handed_to b.2.0) d m))
       (start late.setting c.me c.batch_limit) so
 
-  due-then : (c c' : Correct) → StandsBefore c c' → EachDue late.setting c'.turns (end_of late.setting c)
+  due-then : (c c' : Correct) → IsEarlier c c' → EachDue late.setting c'.turns (end_of late.setting c)
   due-then c c' b = kept-then c c' b (EachDue late.setting c'.turns) (was.keeps late.setting c'.turns)
       (record { heard = λ c m. absurd m; dues = λ i st at. absurd cc })
 
@@ -214,7 +214,7 @@ module _ (early late : Family) (front : IsFrontOf early late) (premises : Premis
       → IsOneView late v
   one-there c m x v at = one-view late premises c m v (slice_get-mem (views_of (end_of late.setting c)) x v at)
 
-  stands-then : (x : ℕ) (ds : List Delivered) → Delivery x ds → StandsByPlace ds
+  stands-then : (x : ℕ) (ds : List Delivered) → Delivery x ds → IsByPlace ds
   stands-then x ds (nothing-there none) = nothing-stands late premises ds none
   stands-then x ds (in-view c m v at so) = view-stands late premises v (one-there c m x v at) c m ds so
 
@@ -232,7 +232,7 @@ module _ (early late : Family) (front : IsFrontOf early late) (premises : Premis
 
   placed : ArePlaced (accounts early)
   placed = record {
-    by_place = mem-All (λ a. (x : ℕ) → StandsByPlace (delivered_in a x)) (accounts early)
+    by_place = mem-All (λ a. (x : ℕ) → IsByPlace (delivered_in a x)) (accounts early)
         (λ a m x. stands-then x (delivered_in a x) (of-account a m x));
     same = mem-All (λ a. All (λ b. (x : ℕ) → HaveSameBatches (delivered_in a x) (delivered_in b x)) (accounts early)) (accounts early)
         (λ a m. mem-All (λ b. (x : ℕ) → HaveSameBatches (delivered_in a x) (delivered_in b x)) (accounts early)

@@ -8,7 +8,7 @@ use Rattle.std.proofs.lemmas.List.Elements.{filter-append}
 use Rattle.group_defs.specs.Views.{View}
 use Rattle.group_defs.specs.Below.{Message, Batch}
 use Rattle.group_defs.specs.Process.{Delivered, views_of, places_in}
-use Rattle.group_defs.specs.Accounts.{account_of, delivered_in, at_place, batch_at, StandsByPlace, HaveSameBatches, ArePlaced}
+use Rattle.group_defs.specs.Accounts.{account_of, delivered_in, at_place, batch_at, IsByPlace, HaveSameBatches, ArePlaced}
 use Rattle.group_defs.specs.Family.{Correct, Family, end_of, accounts}
 use Rattle.group_defs.specs.Laws.{Premises, IsOneView}
 use Rattle.std.specs.Prelude.{All}
@@ -139,12 +139,12 @@ batch-of bs ds e k b at = let same : k ≡ 0 + k = omega arith in ap (λ k. batc
 -- ---- so it is at the end
 
 module _ (f : Family) (premises : Premises f) where
-  pub nothing-stands : (ds : List Delivered) → ds ≡ [] → StandsByPlace ds
+  pub nothing-stands : (ds : List Delivered) → ds ≡ [] → IsByPlace ds
   nothing-stands [] e = record { together = refl; batches = λ k lt. absurd (omega (arith, lt)) }
   nothing-stands (d ∷ ds) e = absurd cc
 
   pub view-stands : (v : View) → IsOneView f v → (c : Correct) → Mem c f.correct → (ds : List Delivered)
-      → ViewSo f.setting c.turns (end_of f.setting c) v ds → StandsByPlace ds
+      → ViewSo f.setting c.turns (end_of f.setting c) v ds → IsByPlace ds
   view-stands v one c m ds so = record {
     together = ap (λ n. flat_map (λ k. at_place k ds) (range_with_len 0 n)) so.count ∙ together-from 0 so.batches ds so.as_placed;
     batches = λ k lt.
@@ -157,10 +157,10 @@ module _ (f : Family) (premises : Premises f) where
         (omega (arith, some, is, long), omega (arith, few, is, long));
   }
 
-  stands : (c : Correct) → Mem c f.correct → (x : ℕ) → StandsByPlace (delivered_in (account_of (end_of f.setting c)) x)
+  stands : (c : Correct) → Mem c f.correct → (x : ℕ) → IsByPlace (delivered_in (account_of (end_of f.setting c)) x)
   stands c m x = go (part f.setting c.turns (end_of f.setting c) (of-history f premises c) x)
     where
-      go : Part f.setting c.turns (end_of f.setting c) x → StandsByPlace (delivered_in (account_of (end_of f.setting c)) x)
+      go : Part f.setting c.turns (end_of f.setting c) x → IsByPlace (delivered_in (account_of (end_of f.setting c)) x)
       go (nothing none) = nothing-stands _ none
       go (something v at so) = view-stands v (one-view f premises c m v (slice_get-mem (views_of (end_of f.setting c)) x v at)) c m _ so
 
@@ -194,7 +194,7 @@ module _ (f : Family) (premises : Premises f) where
 
   pub are-placed : ArePlaced (accounts f)
   are-placed = record {
-    by_place = each-account f (λ a. (x : ℕ) → StandsByPlace (delivered_in a x)) stands;
+    by_place = each-account f (λ a. (x : ℕ) → IsByPlace (delivered_in a x)) stands;
     same = each-account f (λ a. All (λ b. (x : ℕ) → HaveSameBatches (delivered_in a x) (delivered_in b x)) (accounts f))
         (λ c m. each-account f (λ b. (x : ℕ) → HaveSameBatches (delivered_in (account_of (end_of f.setting c)) x) (delivered_in b x))
         (λ c' m'. same c c' m m'));

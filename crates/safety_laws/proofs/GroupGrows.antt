@@ -8,7 +8,7 @@ use Rattle.group_defs.specs.Process.{Setting, Delivered, Left, Process, start, v
 use Rattle.group_defs.specs.Events.{Turn, after, run}
 use Rattle.group_defs.specs.Accounts.{Account, account_of, IsPrefixOf, HasLeft, messages_in, longest, group_of, AgreesWith}
 use Rattle.group_defs.specs.Family.{Correct, Family, end_of, ends, accounts, handed_to}
-use Rattle.group_defs.specs.Laws.{Premises, HasGrown, StandsBefore, IsFrontOf, Growth}
+use Rattle.group_defs.specs.Laws.{Premises, HasGrown, IsEarlier, IsFrontOf, Growth}
 use Rattle.std.proofs.lemmas.List.{length-append, map-append}
 use Rattle.safety_laws.proofs.AllAgree.{agreement}
 use Rattle.safety_laws.proofs.EachWasDue.{grown-self}
@@ -72,7 +72,7 @@ run-append s p (t ∷ ts) us = run-append s (after s p t) ts us
 
 -- ---- fronts
 
-module _ (s : Setting) (c c' : Correct) (before : StandsBefore c c') where
+module _ (s : Setting) (c c' : Correct) (before : IsEarlier c c') where
   pub later-is : run s (end_of s c) before.2.0 ≡ end_of s c'
   later-is = sym (run-append s (start s c.me c.batch_limit) c.turns before.2.0) ∙
       (λ i. run s (start s (before.0 i) (before.1 i)) (before.2.1 i))
@@ -89,11 +89,11 @@ module _ (s : Setting) (c c' : Correct) (before : StandsBefore c c') where
       (run-keeps s (Extends (end_of s c)) before.2.0 (extends s (handed_to before.2.0) (end_of s c)) (end_of s c)
       (extends-self (end_of s c)))
 
-pub later-of : (cs cs' : List Correct) → AllZip StandsBefore cs cs' → (c : Correct) → Mem c cs
-    → (c' : Correct) × Mem c' cs' × StandsBefore c c'
+pub later-of : (cs cs' : List Correct) → AllZip IsEarlier cs cs' → (c : Correct) → Mem c cs
+    → (c' : Correct) × Mem c' cs' × IsEarlier c c'
 later-of [] cs' all c m = absurd m
 later-of (d ∷ cs) [] all c m = absurd all
-later-of (d ∷ cs) (d' ∷ cs') all c (inl e) = (d', inl refl, subst (λ c. StandsBefore c d') e all.0)
+later-of (d ∷ cs) (d' ∷ cs') all c (inl e) = (d', inl refl, subst (λ c. IsEarlier c d') e all.0)
 later-of (d ∷ cs) (d' ∷ cs') all c (inr m) = let rest = later-of cs cs' all.1 c m in (rest.0, inr rest.1, rest.2)
 
 pub longest-front : {A : Type 0} (g : Account → List A) (bs : List Account) (ys : List A) → ((a : Account) → Mem a bs → IsPrefixOf (g a) ys)
@@ -106,7 +106,7 @@ longest-front g (a ∷ bs) ys each =
 -- an early account and its late one
 module _ (early late : Family) (front : IsFrontOf early late) where
   Later : Account → Type 0
-  Later a = (c : Correct) × (c' : Correct) × Mem c' late.correct × StandsBefore c c' × (account_of (end_of late.setting c) ≡ a)
+  Later a = (c : Correct) × (c' : Correct) × Mem c' late.correct × IsEarlier c c' × (account_of (end_of late.setting c) ≡ a)
 
   later : (a : Account) → Mem a (accounts early) → Later a
   unfolding Later
@@ -145,7 +145,7 @@ module _ (early late : Family) (front : IsFrontOf early late) where
         ((agrees c' it.2).prefixes x))
 
     -- who left it early as a member left it so
-    pub whole-later : (c c' : Correct) → Mem c' late.correct → StandsBefore c c' → (x : ℕ) (v : View)
+    pub whole-later : (c c' : Correct) → Mem c' late.correct → IsEarlier c c' → (x : ℕ) (v : View)
         → slice_get (views_of (end_of late.setting c)) x ≡ Some v → is_member v (end_of late.setting c).me ≡ true
         → x + 1 < length (views_of (end_of late.setting c))
         → messages_in (account_of (end_of late.setting c)) x ≡ (group_of (accounts late)).sequence x

@@ -7,7 +7,7 @@ use Rattle.std.proofs.lemmas.List.{length-map}
 use Rattle.group_defs.specs.Below.{is_yes, bytes_discrete, Update, Batch-discrete}
 use Rattle.group_defs.specs.Views.{View, is_member, next_view, is_possible}
 use Rattle.group_defs.specs.Process.{Letter, Delivered, places_in, without_places}
-use Rattle.group_defs.specs.Accounts.{Account, Group, group_of, longest, delivered_in, messages_in, at_place, batch_at, StandsByPlace, HaveSameBatches, ArePlaced, HasListOfEachView, IsPrefixOf, HasCause, history, of_sender, Sound, neighbours, perceived_in, same_views, has_cause, is_in_order, is_sound_in, is_accepted, stands_by_place, have_same_batches, are_placed_in, sound, SoundIsTested}
+use Rattle.group_defs.specs.Accounts.{Account, Group, group_of, longest, delivered_in, messages_in, at_place, batch_at, IsByPlace, HaveSameBatches, ArePlaced, HasListOfEachView, IsPrefixOf, HasCause, history, of_sender, Sound, neighbours, perceived_in, same_views, has_cause, is_in_order, is_sound_in, is_accepted, is_by_place, have_same_batches, are_placed_in, sound, SoundIsTested}
 use Rattle.safety_laws.proofs.AgreeTested.{Decides, deliveries-decide, discrete-decides, is-prefix, is-same, prefix-is, same-is, same_delivered, same_view, views-decide}
 use Rattle.safety_laws.proofs.InOrder.{Numbered, by_sender, numbered-once}
 use Rattle.pool_laws.proofs.Members.{All-mem, Contains-mem, Mem, each-list_all, filter-mem, list_all-mem, list_any-mem, map-mem, mem-All, mem-Contains, mem-filter, mem-flat_map, mem-list_any, mem-map}
@@ -165,7 +165,7 @@ order-numbered ds order k d at =
 
 -- ---- places
 
-pub stands-there : (ds : List Delivered) → stands_by_place ds ≡ true → StandsByPlace ds
+pub stands-there : (ds : List Delivered) → is_by_place ds ≡ true → IsByPlace ds
 stands-there ds e =
     let n : ℕ = places_in ds in
     let test : ℕ → Bool = λ k. nat_le 1 (length (at_place k ds)) && nat_le (length (at_place k ds)) 16 in
@@ -178,7 +178,7 @@ stands-there ds e =
           (leb-true 1 (length (at_place k ds)) (and-first _ _ here), leb-true (length (at_place k ds)) 16 (and-second _ _ here));
     }
 
-pub there-stands : (ds : List Delivered) → StandsByPlace ds → stands_by_place ds ≡ true
+pub there-stands : (ds : List Delivered) → IsByPlace ds → is_by_place ds ≡ true
 there-stands ds so =
     let n : ℕ = places_in ds in
     both-true _ _ (is-same same_delivered deliveries-decide (flat_map (λ k. at_place k ds) (range_with_len 0 n)) ds so.together)
@@ -232,14 +232,14 @@ module _ (accounts : List Account) (full : All HasListOfEachView accounts) where
 
   -- in the views that there are, and beyond them
   PlacedIn : ℕ → Type 0
-  PlacedIn x = ((a : Account) → Mem a accounts → StandsByPlace (delivered_in a x))
+  PlacedIn x = ((a : Account) → Mem a accounts → IsByPlace (delivered_in a x))
       × ((a b : Account) → Mem a accounts → Mem b accounts → HaveSameBatches (delivered_in a x) (delivered_in b x))
 
   placed-there : list_all (are_placed_in accounts) (range_with_len 0 (length g.views)) ≡ true → (x : ℕ) → PlacedIn x
   unfolding PlacedIn
   placed-there e x = go (nat_lt x (length g.views)) refl
     where
-      nothing-stands : (ds : List Delivered) → ds ≡ [] → StandsByPlace ds
+      nothing-stands : (ds : List Delivered) → ds ≡ [] → IsByPlace ds
       nothing-stands [] none = record { together = refl; batches = λ k lt. absurd (omega (arith, lt)) }
       nothing-stands (d ∷ ds) none = absurd cc
 
@@ -251,11 +251,11 @@ module _ (accounts : List Account) (full : All HasListOfEachView accounts) where
           let tested = list_all-mem (are_placed_in accounts)
           (range_with_len 0 (length g.views)) x e
           (range-mem 0 (length g.views) x (omega arith) (let less = ltb-true x (length g.views) lt in omega (arith, less))) in
-          let one = and-first (list_all (λ a. stands_by_place (delivered_in a x)) accounts)
+          let one = and-first (list_all (λ a. is_by_place (delivered_in a x)) accounts)
           (list_all (λ a. list_all (λ b. have_same_batches (delivered_in a x) (delivered_in b x)) accounts) accounts) tested in
-          let two = and-second (list_all (λ a. stands_by_place (delivered_in a x)) accounts)
+          let two = and-second (list_all (λ a. is_by_place (delivered_in a x)) accounts)
           (list_all (λ a. list_all (λ b. have_same_batches (delivered_in a x) (delivered_in b x)) accounts) accounts) tested in (
-            λ a m. stands-there (delivered_in a x) (list_all-mem (λ (a : Account). stands_by_place (delivered_in a x)) accounts a one m),
+            λ a m. stands-there (delivered_in a x) (list_all-mem (λ (a : Account). is_by_place (delivered_in a x)) accounts a one m),
             λ a b m m'. batches-there (delivered_in a x) (delivered_in b x)
                 (list_all-mem (λ (b : Account). have_same_batches (delivered_in a x) (delivered_in b x)) accounts b
                 (list_all-mem (λ (a : Account). list_all
@@ -269,7 +269,7 @@ module _ (accounts : List Account) (full : All HasListOfEachView accounts) where
   are-placed : list_all (are_placed_in accounts) (range_with_len 0 (length g.views)) ≡ true → ArePlaced accounts
   unfolding PlacedIn
   are-placed e = record {
-    by_place = mem-All (λ a. (x : ℕ) → StandsByPlace (delivered_in a x)) accounts (λ a m x. (placed-there e x).0 a m);
+    by_place = mem-All (λ a. (x : ℕ) → IsByPlace (delivered_in a x)) accounts (λ a m x. (placed-there e x).0 a m);
     same = mem-All (λ a. All (λ b. (x : ℕ) → HaveSameBatches (delivered_in a x) (delivered_in b x)) accounts) accounts
         (λ a m. mem-All (λ b. (x : ℕ) → HaveSameBatches (delivered_in a x) (delivered_in b x)) accounts
         (λ b m' x. (placed-there e x).1 a b m m'));
@@ -277,9 +277,9 @@ module _ (accounts : List Account) (full : All HasListOfEachView accounts) where
 
   placed-tested : ArePlaced accounts → list_all (are_placed_in accounts) (range_with_len 0 (length g.views)) ≡ true
   placed-tested so = each-list_all (are_placed_in accounts) (range_with_len 0 (length g.views)) (λ x in_range. both-true _ _
-      (each-list_all (λ a. stands_by_place (delivered_in a x)) accounts
+      (each-list_all (λ a. is_by_place (delivered_in a x)) accounts
       (λ a m. there-stands (delivered_in a x)
-      (All-mem (λ (a : Account). (x : ℕ) → StandsByPlace (delivered_in a x)) accounts a so.by_place m x)))
+      (All-mem (λ (a : Account). (x : ℕ) → IsByPlace (delivered_in a x)) accounts a so.by_place m x)))
       (each-list_all (λ a. list_all (λ b. have_same_batches (delivered_in a x) (delivered_in b x)) accounts) accounts
       (λ a m. each-list_all (λ b. have_same_batches (delivered_in a x) (delivered_in b x)) accounts (λ b m'.
       there-batches (delivered_in a x) (delivered_in b x)

@@ -11,7 +11,7 @@ use Rattle.replay_defs.specs.declared.Fault.{Fault}
 use Rattle.replay_defs.specs.Schedules.{ScheduleEvent, Header, Schedule, steps_of, most_steps, most_bytes}
 use Rattle.replay_defs.specs.Reading.{Step, Roles, roles_of, byte_that, tag_at, header_at, event_at, whole_of, placed, placed_past_limit, whole_input, cut_input, too_long, schedule_of}
 use Rattle.replay_defs.specs.Pieces.{Reading, AreRead, within_limit, readable, HasGiven, WasFed, IsShort, NoneWhole, IsWhole}
-use Rattle.schedule_laws.specs.Laws.{FrontStands, FaultStands, EndIsWhole}
+use Rattle.schedule_laws.specs.Laws.{ReadingIgnoresRest, FaultIsFinal, EndIsWhole}
 use Rattle.schedule_laws.proofs.Steps.{Goes, later}
 use Rattle.schedule_laws.proofs.Wholes.{within_is}
 use Rattle.schedule_laws.proofs.Behind.{header_stable, event_stable}
@@ -398,15 +398,15 @@ ends_before fed found small e = let whole : whole_of fed
 
 -- ---- as laws
 
-pub front_stands : FrontStands
-front_stands roles left bytes more rest = (
+pub reading_ignores_rest : ReadingIgnoresRest
+reading_ignores_rest roles left bytes more rest = (
   λ h e. ok_goes bytes more (header_at bytes) (header_at (bytes ++ more)) h rest e (header_stable bytes more),
   λ e is. ok_goes bytes more (event_at roles left bytes)
       (event_at roles left (bytes ++ more)) e rest is (event_stable roles left bytes more),
 )
 
-pub fault_stands : FaultStands
-fault_stands h r fed es found has stands next other more = fault_of_event h r fed es found has stands next other more
+pub fault_is_final : FaultIsFinal
+fault_is_final h r fed es found has stands next other more = fault_of_event h r fed es found has stands next other more
 
 pub end_is_whole : EndIsWhole
 end_is_whole h r fed es others has stands read small = ends_whole h r fed es others has stands read small

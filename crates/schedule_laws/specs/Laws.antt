@@ -19,14 +19,14 @@ SpelledIsRead = (s : Schedule) → IsSchedule s → schedule_of (schedule_bytes 
 -- ---- in pieces
 
 -- a header or an event that was read is the same, whatever follows its bytes
-abbrev pub FrontStands : Type 0
-FrontStands = (roles : Roles) (left : ℕ) (bytes more rest : List ℕ)
+abbrev pub ReadingIgnoresRest : Type 0
+ReadingIgnoresRest = (roles : Roles) (left : ℕ) (bytes more rest : List ℕ)
     → ((h : Header) → header_at bytes ≡ Ok (h, rest) → header_at (bytes ++ more) ≡ Ok (h, rest ++ more))
     × ((e : ScheduleEvent) → event_at roles left bytes ≡ Ok (e, rest) → event_at roles left (bytes ++ more) ≡ Ok (e, rest ++ more))
 
 -- The next event's fault is that of the input, however it goes on, unless the bytes that were fed end within the event.
-abbrev pub FaultStands : Type 0
-FaultStands = (h : Header) (r : Reading) (fed : List ℕ) (es : List ScheduleEvent) (found : Found) → r.header ≡ Some h → WasFed r fed es
+abbrev pub FaultIsFinal : Type 0
+FaultIsFinal = (h : Header) (r : Reading) (fed : List ℕ) (es : List ScheduleEvent) (found : Found) → r.header ≡ Some h → WasFed r fed es
     → event_at (roles_of h.processes) r.steps (readable r) ≡ Err found → (found.kind ≡ faults.Short → ⊥)
     → (more : List ℕ) → schedule_of (fed ++ more) ≡ Err (record { kind = found.kind; place = r.taken + length (readable r) - found.left })
 

@@ -27,7 +27,7 @@ use Rattle.store_service.specs.Service.{AreServed, Serving, after_all, after_one
 use Rattle.node_defs.specs.Nodes as nodes
 use Rattle.serve_laws.specs.Runs.{IsHostIn, NodeRun, after_some, at, cast, first, history, opened, steps, steps_by, steps_in, turns_of, word_in}
 use Rattle.serve_laws.specs.Reported.{Gave, Replied, WasSaid, WritesOfNote, WritesToLine}
-use Rattle.serve_laws.specs.Laws.{RunTells, RunsTell, SaysReply, SaysState}
+use Rattle.serve_laws.specs.Laws.{RunIsServed, RunsTell, SaysReply, SaysState}
 use Rattle.serve_laws.proofs.Changing.{waiting}
 use Rattle.serve_laws.proofs.Opened.{Waits, opened-sound, opening-waits}
 use Rattle.serve_laws.proofs.Along as along
@@ -51,7 +51,7 @@ same-note : (r p : ℕ) (other note : Note) → NotesOf r other ≡ NotesOf p no
 same-note r p other note e = cc
 
 -- the node tells its service of this note
-record TellsNow (n : Node) (p : ℕ) (note : Note) : Type 0 where
+record NotesNow (n : Node) (p : ℕ) (note : Note) : Type 0 where
   over : n.opening ≡ []
   rest : List Leaving
   first_is : n.leaving ≡ Notes p note ∷ rest
@@ -69,7 +69,7 @@ module _ (c : Cast) (n : Node) (p : ℕ) (note : Note) where
   by-task (Post r to frame ∷ ts) e = cc
   by-task (Mark ∷ ts) e = cc
 
-  by-leaving : (ls : List Leaving) → n.opening ≡ [] → n.leaving ≡ ls → call_of_leaving c n ls ≡ NotesOf p note → TellsNow n p note
+  by-leaving : (ls : List Leaving) → n.opening ≡ [] → n.leaving ≡ ls → call_of_leaving c n ls ≡ NotesOf p note → NotesNow n p note
   by-leaving [] over is e = absurd (by-task n.tasks e)
   by-leaving (Sends r to frame ∷ ls) over is e = absurd cc
   by-leaving (Notes r other ∷ ls) over is e = record {
@@ -78,18 +78,18 @@ module _ (c : Cast) (n : Node) (p : ℕ) (note : Note) where
     first_is = is ∙ ap (λ (l : Leaving). l ∷ ls) (same-note r p other note e);
   }
 
-  by-opening : (os : List Opening) → n.opening ≡ os → call_of_opening c n os ≡ NotesOf p note → TellsNow n p note
+  by-opening : (os : List Opening) → n.opening ≡ os → call_of_opening c n os ≡ NotesOf p note → NotesNow n p note
   by-opening [] is e = by-leaving n.leaving is refl e
   by-opening (Bind port ∷ os) is e = absurd cc
   by-opening (Greet text ∷ os) is e = absurd cc
   by-opening (Serve ∷ os) is e = absurd cc
   by-opening (Finish ∷ os) is e = absurd cc
 
-  tells-now : call_of c n ≡ NotesOf p note → TellsNow n p note
+  tells-now : call_of c n ≡ NotesOf p note → NotesNow n p note
   unfolding call_of
   tells-now e = go n.stopped e
     where
-      go : (st : Option Stop) → elim st [ Some why ↦ Rests | None ↦ call_of_opening c n n.opening ] ≡ NotesOf p note → TellsNow n p note
+      go : (st : Option Stop) → elim st [ Some why ↦ Rests | None ↦ call_of_opening c n n.opening ] ≡ NotesOf p note → NotesNow n p note
       go None is = by-opening n.opening refl is
       go (Some why) is = absurd cc
 
@@ -217,7 +217,7 @@ module _ (r : NodeRun) (h : Host) (is : IsKit r.kit) (found : IsHostIn r h) (ser
       n : Node
       n = after_some r w.front
 
-      it : TellsNow n h.process note
+      it : NotesNow n h.process note
       it = tells-now c n h.process note w.call_is
 
       left-is : waiting h.process n.leaving ≡ note ∷ waiting h.process it.rest

@@ -1,6 +1,6 @@
 -- The laws of the store, of a node that serves.
 -- Names here (* for this crate alone):
---   what a run answers: SaysReply*, SaysState*, RunTells*, RunsTell*
+--   what a run answers: SaysReply*, SaysState*, RunIsServed*, RunsTell*
 --   a run of a correct process: AreJoinings*, IsOneOf*, IsServedRun*, RunsAreServed*
 --   by name: RepliesAreMade*, StatesAreMade*, RepliesAreAnswers*, RepliesOnce*, StatesOnce*, StoresHold*, WroteIt*, IsWritten*,
 --     AcceptedAreAnswers*
@@ -48,7 +48,7 @@ pub record SaysState (r : NodeRun) (h : Host) (text : List ℕ) : Type 0 where
 
 -- For a process that a node hosts: what is said of each note that its turns let out, and to each line of the script, is what its server
 -- writes, in the run of the server that begins as the node does. So after each message it is a reply, or that there is none.
-pub record RunTells (r : NodeRun) (h : Host) : Type 0 where
+pub record RunIsServed (r : NodeRun) (h : Host) : Type 0 where
   pub notes : (note : Note) (text : List ℕ) → WasSaid r (NotesOf h.process note) text → WritesOfNote r h note text
   pub lines : (line text : List ℕ) → WasSaid r (Words h.process line) text → WritesToLine r h line text
   pub replies : (view : ℕ) (d : Delivered) (text : List ℕ) → WasSaid r (NotesOf h.process (Delivers view d)) text → SaysReply r h text
@@ -56,7 +56,7 @@ pub record RunTells (r : NodeRun) (h : Host) : Type 0 where
 
 -- this holds of each hosted process, where the service of the node has answered as the servers of a store
 abbrev pub RunsTell : Type 0
-RunsTell = (r : NodeRun) (h : Host) → IsKit r.kit → IsHostIn r h → AreServed None (history r) → RunTells r h
+RunsTell = (r : NodeRun) (h : Host) → IsKit r.kit → IsHostIn r h → AreServed None (history r) → RunIsServed r h
 
 -- ---- a run of a correct process
 
@@ -163,7 +163,7 @@ pub record StoreLaws (sv : Services) (r : NodeRun) (h : Host) (later : List Entr
 -- writes; and where the process is a correct one of a family, the laws of the store hold of it.
 pub record ServesStore (asked : List Asked) : Type 0 where
   pub served : AreServed None asked
-  pub tells : (r : NodeRun) (h : Host) → history r ≡ asked → IsKit r.kit → IsHostIn r h → RunTells r h
+  pub tells : (r : NodeRun) (h : Host) → history r ≡ asked → IsKit r.kit → IsHostIn r h → RunIsServed r h
   pub laws : (sv : Services) (r : NodeRun) (h : Host) (later : List Entry) → history r ≡ asked → ServicePremises sv → IsOneOf sv r h later
       → StoreLaws sv r h later
 

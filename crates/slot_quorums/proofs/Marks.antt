@@ -10,7 +10,7 @@ use Rattle.group_defs.specs.Process.{Pool}
 use Rattle.indexmap.specs.Layout.{set_value_at, length-set_value_at}
 use Rattle.claim_index.specs.declared.key.SlotKey.{SlotKey}
 use Rattle.slot_quorums.specs.declared.cell.Cell.{Cell}
-use Rattle.slot_quorums.specs.Cells.{StandsAt, AreCells}
+use Rattle.slot_quorums.specs.Cells.{IsFoundAt, AreCells}
 use Rattle.slot_quorums.specs.Marks.{placed, noted, restored, AreMarkedCells}
 
 abbrev Cells : Type 0
@@ -91,7 +91,7 @@ module _ (cs : Cells) (key : SlotKey) (c : Cell) (marked : ℕ) (changed : List 
           ∙ ap (λ xs. restored xs (take marked (set_value_at cs i c))) (append-nil changed)
           ∙ ap (restored changed) (take-set marked cs i c ∙ set-beyond (take marked cs) i c short)
 
-  pub same_then : (at : Option ℕ) → StandsAt cs key at
+  pub same_then : (at : Option ℕ) → IsFoundAt cs key at
       → restored (changed ++ noted cs marked at) (take marked (placed cs key at c)) ≡ restored changed (take marked cs)
   same_then None stands = same-new
   same_then (Some i) stands = same-old i stands.0 stands.1
@@ -124,7 +124,7 @@ length-placed cs key (Some i) c = omega (arith, length-set_value_at cs i c)
 -- ---- the mark stands
 
 pub still_marked : (h g k : Pool) (cs : Cells) (key : SlotKey) (at : Option ℕ) (c : Cell) (marked : ℕ) (changed : List (ℕ × Cell))
-    → AreMarkedCells h g cs marked changed → StandsAt cs key at → AreCells k (placed cs key at c)
+    → AreMarkedCells h g cs marked changed → IsFoundAt cs key at → AreCells k (placed cs key at c)
     → AreMarkedCells k g (placed cs key at c) marked (changed ++ noted cs marked at)
 still_marked h g k cs key at c marked changed was stands here = record {
   here = here;

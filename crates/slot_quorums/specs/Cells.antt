@@ -60,8 +60,8 @@ abbrev pub AreCells : Pool → List (SlotKey × Cell) → Type 0
 AreCells h cs = (s : Slot) → IsOf h s (lookup (same_slot_key (slot_key s)) cs)
 
 -- the entry of this key is at this place, or there is none
-abbrev pub StandsAt : List (SlotKey × Cell) → SlotKey → Option ℕ → Type 0
-StandsAt cs key at = MatchOption at (lookup (same_slot_key key) cs ≡ None)
+abbrev pub IsFoundAt : List (SlotKey × Cell) → SlotKey → Option ℕ → Type 0
+IsFoundAt cs key at = MatchOption at (lookup (same_slot_key key) cs ≡ None)
     (λ i. (c : Cell) × (slice_get cs i ≡ Some (key, c)) × (lookup (same_slot_key key) cs ≡ Some c))
 
 -- what is certified on the slot, if there is such a slot: where a cell is found it has that content, and else nothing is

@@ -13,7 +13,7 @@ ghost use Rattle.group_defs.specs.Certified as defs;
 ghost use Rattle.claim_index.specs.Statements.{stmt, slot, claim, claim as claim_of};
 ghost use Rattle.claim_index.specs.Keys.{slot_key, same_slot_key};
 ghost use Rattle.claim_index.specs.Kept.{by_number, claim_bytes, empty_pool, with_heard};
-ghost use Rattle.slot_quorums.specs.Cells.{said_at, IsCell, IsCertifiedBy, IsOf, StandsAt};
+ghost use Rattle.slot_quorums.specs.Cells.{said_at, IsCell, IsCertifiedBy, IsOf, IsFoundAt};
 ghost use Rattle.slot_quorums.specs.Marks.{noted, placed, restored};
 
 use crate::cell::{Cell, cell_with};
@@ -85,7 +85,7 @@ fn cell_at<'a>(cells: &'a Cells, key: &SlotKey) -> Option<&'a Cell>
 
 // Where the slot's cell is among the cells.
 fn place_of(cells: &Cells, key: &SlotKey) -> Option<usize>
-    ensures { StandsAt cells.now.entries key.now result }
+    ensures { IsFoundAt cells.now.entries key.now result }
 {
     match cells.get_full(key) {
         Some((place, _, _)) => Some(place),
@@ -95,7 +95,7 @@ fn place_of(cells: &Cells, key: &SlotKey) -> Option<usize>
 
 // The slot's cell, by where it is.
 fn cell_there(cells: &Cells, key: &SlotKey, at: Option<usize>) -> Option<Cell>
-    requires { StandsAt cells.now.entries key.now at }
+    requires { IsFoundAt cells.now.entries key.now at }
     ensures { result ≡ lookup (same_slot_key key.now) cells.now.entries }
 {
     match cells.get_index(at?) {
@@ -107,7 +107,7 @@ fn cell_there(cells: &Cells, key: &SlotKey, at: Option<usize>) -> Option<Cell>
 // Puts the cell in the place of the slot's, or after all others where it has none.
 fn put(cells: &mut Cells, key: SlotKey, at: Option<usize>, cell: Cell)
     requires spare { 0 < spare cells.old }
-    requires at { StandsAt cells.old.entries key at }
+    requires at { IsFoundAt cells.old.entries key at }
     ensures looks { (k : SlotKey) → lookup (same_slot_key k) cells.new.entries
         ≡ cond (same_slot_key key k) (Some cell) (lookup (same_slot_key k) cells.old.entries) }
     ensures entries { cells.new.entries ≡ placed cells.old.entries key at cell }

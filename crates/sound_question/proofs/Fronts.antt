@@ -7,7 +7,7 @@ use Rattle.std.proofs.lemmas.List.Folds.{list_all-map}
 use Rattle.message_defs.specs.Statements.{Message}
 use Rattle.group_defs.specs.Process.{Delivered, places_in}
 use Rattle.group_defs.specs.Accounts as reported
-use Rattle.group_defs.specs.Accounts.{at_place, batch_at, longest, delivered_in, have_same_batches, stands_by_place, are_placed_in, HaveSameBatches}
+use Rattle.group_defs.specs.Accounts.{at_place, batch_at, longest, delivered_in, have_same_batches, is_by_place, are_placed_in, HaveSameBatches}
 use Rattle.pool_laws.proofs.Members.{Mem, each-list_all, list_all-mem, map-mem, mem-map}
 use Rattle.pool_laws.proofs.Places.{longest-mem, longest-most}
 use Rattle.pool_laws.proofs.Tests.{and-first, and-second, both-true}
@@ -250,8 +250,8 @@ module _ (accounts : List Account) (x : ℕ) where
   abbrev of_account : Account → List Delivered
   of_account a = delivered_in (account a) x
 
-  abbrev all_stand : Bool
-  all_stand = list_all (λ a. steps 0 0 (of_account a)) accounts
+  abbrev all_by_place : Bool
+  all_by_place = list_all (λ a. steps 0 0 (of_account a)) accounts
 
   abbrev are_fronts : List Delivered → Bool
   are_fronts all = list_all (λ a. front 0 (of_account a) all) accounts
@@ -259,14 +259,14 @@ module _ (accounts : List Account) (x : ℕ) where
   abbrev in_view : reported.Account → List Delivered
   in_view a = delivered_in a x
 
-  placed-by : (all_stand && are_fronts (longest (map of_account accounts))) ≡ are_placed_in (map account accounts) x
+  placed-by : (all_by_place && are_fronts (longest (map of_account accounts))) ≡ are_placed_in (map account accounts) x
   placed-by =
-      both-same all_stand (are_fronts (longest (map of_account accounts)))
-      (list_all (λ a. stands_by_place (in_view a)) (map account accounts))
+      both-same all_by_place (are_fronts (longest (map of_account accounts)))
+      (list_all (λ a. is_by_place (in_view a)) (map account accounts))
       (list_all (λ a. list_all (λ b. have_same_batches (in_view a) (in_view b)) (map account accounts)) (map account accounts))
       (all-same (λ a. steps 0 0 (of_account a))
-      (λ a. stands_by_place (of_account a)) accounts (λ a. steps-stands (of_account a)) ∙ sym
-      (list_all-map (λ a. stands_by_place (in_view a)) account accounts))
+      (λ a. is_by_place (of_account a)) accounts (λ a. steps-stands (of_account a)) ∙ sym
+      (list_all-map (λ a. is_by_place (in_view a)) account accounts))
       (λ e.
       fronts-alike of_account accounts e
       ∙ all-same (λ a. list_all (λ b. have_same_batches (of_account a) (of_account b)) accounts)
@@ -274,9 +274,9 @@ module _ (accounts : List Account) (x : ℕ) where
       (λ a. sym (list_all-map (λ b. have_same_batches (of_account a) (in_view b)) account accounts))
       ∙ sym (list_all-map (λ a. list_all (λ b. have_same_batches (in_view a) (in_view b)) (map account accounts)) account accounts))
 
-  pub placed-where : all_stand ≡ true → (all : List Delivered) → all ≡ longest (map of_account accounts)
+  pub placed-where : all_by_place ≡ true → (all : List Delivered) → all ≡ longest (map of_account accounts)
       → are_fronts all ≡ are_placed_in (map account accounts) x
   placed-where e all is = ap are_fronts is ∙ ap (λ b. b && are_fronts (longest (map of_account accounts))) (sym e) ∙ placed-by
 
-  pub not-placed : all_stand ≡ false → false ≡ are_placed_in (map account accounts) x
+  pub not-placed : all_by_place ≡ false → false ≡ are_placed_in (map account accounts) x
   not-placed e = ap (λ b. b && are_fronts (longest (map of_account accounts))) (sym e) ∙ placed-by

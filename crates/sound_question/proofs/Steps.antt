@@ -4,7 +4,7 @@ use Rattle.std.specs.Prelude.{◌==◌, max, nat_lt, if◌then◌else◌, flat_m
 use Rattle.std.specs.List.{range_with_len}
 use Rattle.std.proofs.lemmas.Bool.{cases_eq, cases_lt, eqb-true, eqb-false, eq-eqb, ne_eqb, ltb-true, lt-ltb}
 use Rattle.group_defs.specs.Process.{Delivered, places_in}
-use Rattle.group_defs.specs.Accounts.{at_place, stands_by_place}
+use Rattle.group_defs.specs.Accounts.{at_place, is_by_place}
 use Rattle.pool_laws.proofs.Members.{Mem, filter-mem}
 use Rattle.group_questions.proofs.Fronts.{same-truth}
 use Rattle.safety_laws.proofs.SoundTested.{stands-there, there-stands}
@@ -284,8 +284,8 @@ walks p l n (d ∷ ds) g = go (step p l d ds) (λ g. walks (p + 1) 1 n ds g) (λ
           omega (arith, some, none)
     ])
 
-pub steps-stands : (ds : List Delivered) → steps 0 0 ds ≡ stands_by_place ds
-steps-stands ds = same-truth (steps 0 0 ds) (stands_by_place ds)
+pub steps-stands : (ds : List Delivered) → steps 0 0 ds ≡ is_by_place ds
+steps-stands ds = same-truth (steps 0 0 ds) (is_by_place ds)
     (λ e.
     let n : max 0 (places_in ds) ≡ places_in ds = omega arith in
     let g = subst (Goes 0 0 ds) n (walked 0 0 ds (omega arith) e) in

@@ -20,7 +20,7 @@ fn place_of(d: &Delivered) -> u32
 }
 
 // Whether the places are 0, 1, 2 and so on, each with 1 to 16 messages that lie together.
-fn stands_by_place(delivered: &[Delivered]) -> bool
+fn has_steps(delivered: &[Delivered]) -> bool
     ensures { result ≡ words.steps 0 0 (map delivery delivered.now) }
 {
     // how many places there were so far, and how many messages the last of them has
@@ -42,9 +42,9 @@ fn stands_by_place(delivered: &[Delivered]) -> bool
 
 /// Whether what was delivered in a view is by place: at each place from the first on 1 to 16 messages, one place after the other.
 pub fn is_by_place(delivered: &[Delivered]) -> bool
-    ensures { result ≡ plain.stands_by_place (map delivery delivered.now) }
+    ensures { result ≡ plain.is_by_place (map delivery delivered.now) }
 {
-    stands_by_place(delivered)
+    has_steps(delivered)
 }
 
 // Whether two deliveries are of one message at one place, whatever their payloads.
@@ -76,10 +76,10 @@ fn is_front(own: &[Delivered], all: &[Delivered]) -> bool
 }
 
 // Whether what each process delivered in the view of this number is by place.
-fn all_stand(accounts: &[Account], x: usize) -> bool
+fn all_by_place(accounts: &[Account], x: usize) -> bool
     ensures { result ≡ list_all (λ a. words.steps 0 0 (plain.delivered_in (account a) x)) accounts.now }
 {
-    accounts.iter().all(|a| stands_by_place(delivered_in(a, x)))
+    accounts.iter().all(|a| has_steps(delivered_in(a, x)))
 }
 
 // Whether what each process delivered in the view of this number is a front of this list.
@@ -93,7 +93,7 @@ fn are_fronts(accounts: &[Account], x: usize, all: &[Delivered]) -> bool
 fn are_placed_in(accounts: &[Account], x: usize) -> bool
     ensures { result ≡ plain.are_placed_in (map account accounts.now) x }
 {
-    all_stand(accounts, x) && are_fronts(accounts, x, longest_in(accounts, x))
+    all_by_place(accounts, x) && are_fronts(accounts, x, longest_in(accounts, x))
 }
 
 /// Whether the places of each view are delivered whole and alike.

@@ -6,7 +6,7 @@ use Rattle.std.proofs.lemmas.Grind.{flat_map-append}
 use Rattle.std.proofs.lemmas.List.{drop_at}
 use Rattle.group_defs.specs.Process.{Process}
 use Rattle.journal_defs.specs.Entries.{Entry, IsEntry}
-use Rattle.journal_defs.specs.Journals.{ReadsAs, StandsBefore, HasEntryAt, IsClosedAt, up_to_gate, record_bytes, behind_gate, open_gate}
+use Rattle.journal_defs.specs.Journals.{ReadsAs, LieBefore, HasEntryAt, IsClosedAt, up_to_gate, record_bytes, behind_gate, open_gate}
 use Rattle.journal_defs.proofs.Gates.{entry_is_there, gate_is_there, one_entry}
 use Rattle.node_defs.specs.Casts.{Cast, Beginning, entries_of, taken_up, may_have_written}
 use Rattle.node_defs.specs.Nodes.{takes_up}
@@ -30,7 +30,7 @@ each-within : (es fs : List Entry) (e : Entry) → AllByRecursion IsEntry (es ++
 each-within [] fs e each = each.0
 each-within (x ∷ es) fs e each = each-within es fs e each.1
 
-entry-before : (head file : List ℕ) (before es : List Entry) (e : Entry) (place : ℕ) → StandsBefore head file (before ++ e ∷ es) place
+entry-before : (head file : List ℕ) (before es : List Entry) (e : Entry) (place : ℕ) → LieBefore head file (before ++ e ∷ es) place
     → HasEntryAt file (length (up_to_gate head before)) e (length (up_to_gate head before) + length (record_bytes e))
 entry-before head file before es e place s =
     let records = flat_map record_bytes before in
@@ -48,7 +48,7 @@ entry-before head file before es e place s =
       entry = each-within before es e s.each;
     }
 
-front : (head file : List ℕ) (before es fs : List Entry) (place : ℕ) → StandsBefore head file (before ++ es) place
+front : (head file : List ℕ) (before es fs : List Entry) (place : ℕ) → LieBefore head file (before ++ es) place
     → ReadsAs head file (before ++ fs) → (more : List Entry) × (fs ≡ es ++ more)
 front head file before [] fs place s r = (fs, refl)
 front head file before (e ∷ es) [] place s r =
@@ -58,7 +58,7 @@ front head file before (e ∷ es) (f ∷ fs) place s r =
     let same : e ≡ f = one_entry file _ e f _ _ (entry-before head file before es e place s) (entry_is_there head file before fs f r) in
     let r' : ReadsAs head file (before ++ e ∷ fs) = subst (λ (x : Entry). ReadsAs head file (before ++ x ∷ fs)) (sym same) r in
     let rest = front head file (before ++ e ∷ []) es fs place
-    (subst (λ (xs : List Entry). StandsBefore head file xs place) (sym (append_assoc before (e ∷ []) es)) s)
+    (subst (λ (xs : List Entry). LieBefore head file xs place) (sym (append_assoc before (e ∷ []) es)) s)
     (subst (ReadsAs head file) (sym (append_assoc before (e ∷ []) fs)) r') in
     (rest.0, (λ i. sym same i ∷ rest.1 i))
 

@@ -11,7 +11,7 @@ use Rattle.message_defs.specs.Statements.{Statement, Init, Echo, Order, Place, K
 use Rattle.group_defs.specs.Views.{IsView, ViewsSpent, update_faults, has_keys, is_member, is_possible, next_fault, next_view}
 use Rattle.group_defs.proofs.FollowingViews.{next_is_view}
 use Rattle.group_defs.specs.Process.{Setting, Delivered, Left, Process, deliveries_of, earlier, keyed, places_in, start}
-use Rattle.group_defs.specs.Accounts.{StandsByPlace}
+use Rattle.group_defs.specs.Accounts.{IsByPlace}
 use Rattle.group_defs.specs.Certified.{heard_on}
 use Rattle.group_defs.specs.Due.{may_sign}
 use Rattle.group_defs.specs.Signing.{Signer, own_claim, signs}
@@ -249,7 +249,7 @@ none-of P = mem-All P [] (λ x m. absurd m)
 pub record IsRanged (p : Process) : Type 0 where
   pub number : p.pool.view.number ≤ last_number
   pub view : IsView p.pool.view
-  pub by_place : All StandsByPlace (deliveries_of p)
+  pub by_place : All IsByPlace (deliveries_of p)
   pub few_places : All (λ ds. places_in ds ≤ most_places) (deliveries_of p)
   pub short : All AreShort (deliveries_of p)
 
@@ -269,7 +269,7 @@ module _ (s : Setting) (me limit : ℕ) (turns : List Turn) (zeroth : s.genesis.
 
   placed : PlacedFits last
   placed = placed-run s first turns each-handed (record {
-    by_place = all-deliveries StandsByPlace first (λ l m. absurd m) nothing-stands.0;
+    by_place = all-deliveries IsByPlace first (λ l m. absurd m) nothing-stands.0;
     few_places = all-deliveries (λ ds. places_in ds ≤ most_places) first (λ l m. absurd m) nothing-stands.1;
     outside = λ e. refl;
     placed = λ k lt. absurd (omega (arith, lt));

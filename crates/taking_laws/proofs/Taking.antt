@@ -9,7 +9,7 @@ use Rattle.message_defs.specs.Limits.{last_number, most_payload_bytes, most_plac
 use Rattle.message_defs.specs.Statements.{Claim}
 use Rattle.group_defs.specs.Views.{View, is_member}
 use Rattle.group_defs.specs.Process.{Setting, Delivered, Left, Process, deliveries_of, places_in, start}
-use Rattle.group_defs.specs.Accounts.{StandsByPlace, at_place}
+use Rattle.group_defs.specs.Accounts.{IsByPlace, at_place}
 use Rattle.group_defs.specs.Family.{handed_to}
 use Rattle.group_defs.specs.Settle.{install}
 use Rattle.group_defs.specs.Events.{Note, Delivers, Installs, Liar, Spent, Halts, Turn, after, note_if, outcome, run}
@@ -98,7 +98,7 @@ record IsFit (before : List Delivered) (d : Delivered) : Type 0 where
   pub position : length (at_place d.place before) ≤ last_position
   pub payload : length d.payload ≤ most_payload_bytes
 
-module _ (ds : List Delivered) (stands : StandsByPlace ds) (few : places_in ds ≤ most_places) (short : AreShort ds) where
+module _ (ds : List Delivered) (stands : IsByPlace ds) (few : places_in ds ≤ most_places) (short : AreShort ds) where
   is-fit : (before : List Delivered) (d : Delivered) (behind : List Delivered) → ds ≡ before ++ d ∷ behind → IsFit before d
   is-fit before d behind parts =
       let whole : places_in ds ≡ fold (λ (most : ℕ) (d : Delivered). max most (d.place + 1)) (max (places_in before) (d.place + 1)) behind
@@ -257,7 +257,7 @@ module _ (setting : Setting) (q : Place) (p : Process) (t : Turn) (s : Server) (
         omega (arith, kept, same, now, most, numbered)
 
     first-taken : AreTaken q s (map (Delivers p.pool.view.number) so.on.more)
-    first-taken = messages-taken all (All-mem StandsByPlace (deliveries_of r) all ranged.by_place is-all)
+    first-taken = messages-taken all (All-mem IsByPlace (deliveries_of r) all ranged.by_place is-all)
         (All-mem (λ ds. places_in ds ≤ most_places) (deliveries_of r) all ranged.few_places is-all)
         (All-mem AreShort (deliveries_of r) all ranged.short is-all)
         q x first-within so.later.here.0 p.delivered so.on.more s counts all-is

@@ -4,7 +4,7 @@ use Rattle.std.specs.Prelude.{◌≡◌, ℕ, List, Option, Ok}
 use Rattle.input_defs.specs.Fronts.{Front, front_of}
 use Rattle.chain_words.specs.Running.{AnsweredBy, FaultyBy, HasStatusBy, RefusedBy, ShownAndSaysBy, SomeShownBy}
 use Rattle.proof_defs.specs.Starts.{started_chain_of}
-use Rattle.proof_laws.specs.Starts.{TellsViewsFrom}
+use Rattle.proof_laws.specs.Starts.{ReportsViewsFrom}
 use Rattle.witness_chain.specs.Starting.{InPartBy, LinesBy}
 
 -- The input was read to its end, its status is 0, and its answer was written and nothing else.
@@ -40,5 +40,5 @@ abbrev pub HasStatus : ℕ → Option (List ℕ) → Type 0
 HasStatus status left = HasStatusBy started_chain_of status left
 
 -- what the answer to bytes tells, where they begin with a kit
-abbrev pub AnswerTellsFrom : List ℕ → Type 0
-AnswerTellsFrom bytes = (front : Front) → front_of bytes ≡ Ok front → TellsViewsFrom bytes front
+abbrev pub AnswerReportsFrom : List ℕ → Type 0
+AnswerReportsFrom bytes = (front : Front) → front_of bytes ≡ Ok front → ReportsViewsFrom bytes front

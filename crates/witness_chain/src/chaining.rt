@@ -9,7 +9,7 @@ ghost use Rattle.chain_words.specs.Stops.{input_words, words_of};
 ghost use Rattle.chain_words.specs.Lines.{taken};
 ghost use Rattle.chain_words.specs.Places.{place};
 ghost use Rattle.chain_words.specs.Running.{AnsweredBy, FaultyBy, SomeShownBy};
-ghost use Rattle.witness_chain.specs.Running.{AnswerTellsFrom, Answered, Faulty, HasStatus, InPart, LinesWritten, Refused, ShownAndSays, SomeShown};
+ghost use Rattle.witness_chain.specs.Running.{AnswerReportsFrom, Answered, Faulty, HasStatus, InPart, LinesWritten, Refused, ShownAndSays, SomeShown};
 ghost use Rattle.witness_chain.specs.Starting.{BegunBy, InPartBy, PartShown, first_lines, starts_at};
 
 use crate::starts::start_of;
@@ -170,7 +170,7 @@ pub fn chain<S: Source, K: Sink>(alloc: Global, input: &mut S, output: &mut K) -
 
     // Whatever the status: the answer to what was read is the line of each view of a chain, and at most one line more; and these are the views of
     // the group where the first one is, and the proofs quote its correct processes truly.
-    ensures views { (read : List ℕ) → Consumes (S.left input.old) (S.left input.new) read → AnswerTellsFrom read }
+    ensures views { (read : List ℕ) → Consumes (S.left input.old) (S.left input.new) read → AnswerReportsFrom read }
     ensures only { (result ≡ 0) ⊎ (result ≡ 1) ⊎ (result ≡ 3) ⊎ (result ≡ 4) ⊎ (result ≡ 7) }
 {
     match answer_input(alloc, input, output) {

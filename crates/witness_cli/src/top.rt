@@ -3,7 +3,7 @@ ghost use Rattle.std.specs.Prelude.{◌≡◌, ◌≢◌, ◌↔◌, ◌⊎◌, 
 ghost use Rattle.std.specs.Io.KnownBytes.{Consumes, Keeps};
 ghost use Rattle.rp_base.specs.Causes.{Rose};
 ghost use Rattle.rp_base.specs.Streams.{WritesLine};
-ghost use Rattle.witness_chain.specs.Running.{AnswerTellsFrom, Answered, HasStatus, InPart, LinesWritten, Refused as RefusedChain, ShownAndSays};
+ghost use Rattle.witness_chain.specs.Running.{AnswerReportsFrom, Answered, HasStatus, InPart, LinesWritten, Refused as RefusedChain, ShownAndSays};
 ghost use Rattle.witness_cli.specs.Commands.{AskAny, Asks, Chain, Convict, Judge, Proofs};
 ghost use Rattle.witness_words.specs.Running.{Convicted, ConvictedInPart, HasFindings, HasNoFindings, IsRefused, IsTaken, Proved, ProvedInPart, Refused, Takes, Unconvicted};
 
@@ -138,7 +138,7 @@ pub fn witness<S: Source, K: Sink, E: Sink>(
     // chain, whatever the status: of the answer to what was read, of which all or the beginning was written. Where a kit was read, it is the
     // line of each view of a chain and at most one line more; and these are the views of the group where the first one is, and the proofs quote
     // its correct processes truly.
-    ensures views { Asks words.now Chain → (read : List ℕ) → Consumes (S.left input.old) (S.left input.new) read → AnswerTellsFrom read }
+    ensures views { Asks words.now Chain → (read : List ℕ) → Consumes (S.left input.old) (S.left input.new) read → AnswerReportsFrom read }
 
     // No other status comes; 8 only by convict and proofs.
     ensures only { (result ≡ 0) ⊎ (result ≡ 1) ⊎ (result ≡ 2) ⊎ (result ≡ 3) ⊎ (result ≡ 4) ⊎ (result ≡ 7) ⊎ (result ≡ 8) }

@@ -4,7 +4,7 @@ use Rattle.message_defs.specs.Spelling.{IsViewNumber}
 use Rattle.group_defs.specs.Views.{View, IsView}
 use Rattle.image_defs.specs.Images.{process_of, view_behind}
 use Rattle.image_defs.specs.Kept.{AreLeft, IsKept}
-use Rattle.restored_present.specs.Left.{HasPast, IsLeftSo, StandByPlace, installed_from}
+use Rattle.restored_present.specs.Left.{HasPast, IsLeftSo, AreByPlace, installed_from}
 use Rattle.snapshot_rp.specs.Views.{delivered, left_view, image as image_as}
 use Rattle.restored_present.specs.Parts.{HasPresent, IsPresentSo, IsReportedSo}
 use Rattle.member_restoring.proofs.Kept.{left-so, present-so, stand-so, reported-so}
@@ -16,17 +16,17 @@ use Rattle.member_restoring.proofs.state.state_of.Goals as goal
 clash : {b : _} → b ≡ true → b ≡ false → ⊥
 clash e f = cc
 
-pub returns-then-not-stand_by_place-clause-exact : goal.returns-then-not-stand_by_place-clause-exact
-returns-then-not-stand_by_place-clause-exact g c s judges = (
+pub returns-then-not-are_by_place-clause-exact : goal.returns-then-not-are_by_place-clause-exact
+returns-then-not-are_by_place-clause-exact g c s judges = (
   λ no_way. absurd cc,
-  λ kept. absurd (clash (c.stand_by_place.ensures.1 (subst (λ lists. StandByPlace (map (λ es. map delivered es.items) lists))
-      (sym c.deref.ensures.value) (stand-so s (image_as c.args.image) c.requires.spelled.lists kept))) c.if-not-stand_by_place.true),
+  λ kept. absurd (clash (c.are_by_place.ensures.1 (subst (λ lists. AreByPlace (map (λ es. map delivered es.items) lists))
+      (sym c.deref.ensures.value) (stand-so s (image_as c.args.image) c.requires.spelled.lists kept))) c.if-not-are_by_place.true),
 )
 
 pub left_in-requires-clause-placed : goal.left_in-requires-clause-placed
 left_in-requires-clause-placed g c =
-    subst (λ lists. StandByPlace (map (λ es. map delivered es.items) lists)) c.deref.ensures.value
-    (c.stand_by_place.ensures.0 c.if-not-stand_by_place.false)
+    subst (λ lists. AreByPlace (map (λ es. map delivered es.items) lists)) c.deref.ensures.value
+    (c.are_by_place.ensures.0 c.if-not-are_by_place.false)
 
 pub returns-in_default-clause-exact : goal.returns-in_default-clause-exact
 returns-in_default-clause-exact g c s judges = (
@@ -49,8 +49,8 @@ returns-then-not-is_reported-clause-exact g c s judges = (
 
 pub present_after-requires-clause-placed : goal.present_after-requires-clause-placed
 present_after-requires-clause-placed g c =
-    subst (λ lists. StandByPlace (map (λ es. map delivered es.items) lists)) c.deref.ensures.value
-    (c.stand_by_place.ensures.0 c.if-not-stand_by_place.false)
+    subst (λ lists. AreByPlace (map (λ es. map delivered es.items) lists)) c.deref.ensures.value
+    (c.are_by_place.ensures.0 c.if-not-are_by_place.false)
 
 pub returns-in_default-2-clause-exact : goal.returns-in_default-2-clause-exact
 returns-in_default-2-clause-exact g c s judges = (
@@ -81,8 +81,8 @@ returns-clause-exact g c s judges =
     let reported = (c.is_reported.ensures s judges.shares).0 c.if-not-is_reported.false in
     let present = some-so _ c.in-Some-2.present (IsPresentSo s (process_of s 1 image)) c.in-Some-2.is (c.in_ok-present.ensures.exact s judges.shares
     (l.0 ∙ ap (λ (v : View). view_behind v image.left) (sym judges.genesis_is))) in
-    let placed = subst (λ lists. StandByPlace (map (λ es. map delivered es.items) lists)) c.deref.ensures.value
-    (c.stand_by_place.ensures.0 c.if-not-stand_by_place.false) in
+    let placed = subst (λ lists. AreByPlace (map (λ es. map delivered es.items) lists)) c.deref.ensures.value
+    (c.are_by_place.ensures.0 c.if-not-are_by_place.false) in
     let kept : IsKept s image = kept-so s image c.args.genesis judges.genesis_is c.requires.spelled.lists placed left c.in-Some.left.view l.0 reported present in
     (λ some. kept, λ so. refl)
 
@@ -98,8 +98,8 @@ returns-clause-is g c s judges =
     let reported = (c.is_reported.ensures s judges.shares).0 c.if-not-is_reported.false in
     let present = some-so _ c.in-Some-2.present (IsPresentSo s (process_of s 1 image)) c.in-Some-2.is
     (c.in_ok-present.ensures.exact s judges.shares behind) in
-    let placed = subst (λ lists. StandByPlace (map (λ es. map delivered es.items) lists)) c.deref.ensures.value
-    (c.stand_by_place.ensures.0 c.if-not-stand_by_place.false) in
+    let placed = subst (λ lists. AreByPlace (map (λ es. map delivered es.items) lists)) c.deref.ensures.value
+    (c.are_by_place.ensures.0 c.if-not-are_by_place.false) in
     let kept : IsKept s image = kept-so s image c.args.genesis judges.genesis_is c.requires.spelled.lists placed left c.in-Some.left.view l.0 reported present in
     let now = subst (λ o. IfSome o (λ now. HasPresent s p now.own now.pool.pool now.phase)) c.in-Some-2.is
     (c.in_ok-present.ensures.is s c.args.batch_limit judges.shares behind present (own-so s c.in-Some.left.view image reported)) in

@@ -13,26 +13,26 @@ use Rattle.member_signing.proofs.Owned.{own-is, owned-is}
 use Rattle.member_signing.proofs.signing.next.Goals as goal
 
 pub due-requires : goal.due-requires
-due-requires g c = c.standing.ensures.seated c.requires.real
+due-requires g c = c.rule_inputs.ensures.seated c.requires.real
 
 pub make-requires-clause-range : goal.make-requires-clause-range
 make-requires-clause-range g c =
     ∥∥₁_elim c.requires.real (statement-once (stmt c.in-Some.statement)) (λ r.
     due_is_in_range r.setting r.process (stmt c.in-Some.statement) r.state.lawful
     (least_due-may r.setting r.process (kind_of c.args.kind) (stmt c.in-Some.statement)
-    (c.in-Some.ensures r.setting r.process (c.standing.ensures.stands r.setting r.process r.state))))
+    (c.in-Some.ensures r.setting r.process (c.rule_inputs.ensures.stands r.setting r.process r.state))))
 
 pub returns-in_default-clause-next : goal.returns-in_default-clause-next
 returns-in_default-clause-next g c s p group used is = sym
     (ap (option_map (λ (st : Statement). signed_of (own_claim s (g.G.Signer.signature c.args.signer.now) p st)))
-    (c.in_default.ensures s p (c.standing.ensures.stands s p is)))
+    (c.in_default.ensures s p (c.rule_inputs.ensures.stands s p is)))
 
 pub returns-clause-next : goal.returns-clause-next
 returns-clause-next g c s p group used is =
     ap Some (c.in_ok-own.ensures.made ∙ own-is s (g.G.Signer.signature c.args.signer.now) p
     (stmt c.in-Some.statement) c.args.group.now c.args.state.now.own.me (g.G.Tally.used c.args.signer.now) group is.place.number used)
     ∙ sym (ap (option_map (λ (st : Statement). signed_of (own_claim s (g.G.Signer.signature c.args.signer.now) p st)))
-    (c.in-Some.ensures s p (c.standing.ensures.stands s p is)))
+    (c.in-Some.ensures s p (c.rule_inputs.ensures.stands s p is)))
 
 pub returns-clause-owed : goal.returns-clause-owed
 returns-clause-owed g c =
@@ -43,7 +43,7 @@ returns-clause-owed g c =
         said = stmt c.in-Some.statement;
         state = r.state;
         may = least_due-may r.setting r.process (kind_of c.args.kind) (stmt c.in-Some.statement)
-            (c.in-Some.ensures r.setting r.process (c.standing.ensures.stands r.setting r.process r.state));
+            (c.in-Some.ensures r.setting r.process (c.rule_inputs.ensures.stands r.setting r.process r.state));
         own = owned-is r.setting r.process
             (stmt c.in-Some.statement) c.in_ok-own.own c.args.state.now.own.me _ c.in_ok-own.ensures.made r.state.place.number;
       });

@@ -11,14 +11,14 @@ use Rattle.store_defs.specs.Words.{most_state_line_bytes}
 use Rattle.serve_laws.specs.Services.{HasServed}
 use Rattle.serve_laws.specs.Laws.{ServesStore}
 use Rattle.serve_laws.proofs.Served.{histories_serve}
-use Rattle.chain_laws.proofs.Reported.{answer_tells_views}
+use Rattle.chain_laws.proofs.Reported.{answers_report_views}
 use Rattle.audit_words.specs.Running.{Found, FoundInPart, HasFindings, HasNoFindings, Unfound}
 use Rattle.node_traces.specs.Seen.{link_seen, sink_seen, source_seen}
 use Rattle.replay_words.specs.Answers.{Reported, ReportedInPart, kit_of_order, schedule_of_number}
 use Rattle.rampart_cli.proofs.Orders.{same_order, same_number, same_short, no_command}
 use Rattle.rampart_cli.proofs.ReadFaults.{none_failed, none_failed_either}
 use Rattle.rampart_cli.proofs.Services.{alone, alone_limit, guard_limit, in_order, in_order_resuming, resumed_alone, serve_limit, with_service}
-use Rattle.rampart_cli.proofs.Reported.{ask_tells}
+use Rattle.rampart_cli.proofs.Reported.{ask_reports}
 use Rattle.rampart_cli.proofs.top.rampart.Goals as goal
 
 pub returns-in-Some-Keygen-clause-made : goal.returns-in-Some-Keygen-clause-made
@@ -95,7 +95,7 @@ pub returns-in-None-clause-only_replayed : goal.returns-in-None-clause-only_repl
 returns-in-None-clause-only_replayed g c = λ short asks. absurd (no_command _ (c.in-None.ensures.only (Replay short) asks))
 
 pub returns-in-Some-Chain-clause-views : goal.returns-in-Some-Chain-clause-views
-returns-in-Some-Chain-clause-views g c = λ asks read taken. answer_tells_views read
+returns-in-Some-Chain-clause-views g c = λ asks read taken. answers_report_views read
 
 pub returns-in-None-clause-ended : goal.returns-in-None-clause-ended
 returns-in-None-clause-ended g c = λ file asks f. absurd (no_command _ (c.in-None.ensures.only (Node file) asks))
@@ -301,7 +301,7 @@ returns-in-Some-Audit-clause-audit_refuses g c = λ listed status asks none calm
     calm
 
 pub returns-in-Some-Ask-clause-accepted : goal.returns-in-Some-Ask-clause-accepted
-returns-in-Some-Ask-clause-accepted g c = λ payload asks read taken. ask_tells payload read
+returns-in-Some-Ask-clause-accepted g c = λ payload asks read taken. ask_reports payload read
 
 pub returns-in-None-clause-accepted : goal.returns-in-None-clause-accepted
 returns-in-None-clause-accepted g c = λ payload asks read taken. absurd (no_command _ (c.in-None.ensures.only (Ask payload) asks))

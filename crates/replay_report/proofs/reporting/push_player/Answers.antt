@@ -5,6 +5,6 @@ use Rattle.replay_report.proofs.reporting.push_player.Goals as goal
 
 pub returns : goal.returns
 returns c = λ s d plays.
-    let so = c.standing_of-standing.ensures s d plays in
+    let so = c.report_of-report.ensures s d plays in
     c.push_block.ensures c.args.spent.now d.now
     (ap (λ (a : Account). has c.args.spent.now a.me) so.account ∙ sym c.contains-is_spent.ensures.value) so

@@ -9,8 +9,8 @@ use Rattle.report_lines.proofs.processes.push_block.Goals as goal
 
 pub returns : goal.returns
 returns c = λ keys_spent p is_spent so.
-    let me = c.args.standing.now.account.now.me in
-    block-written c.args.standing.now p so keys_spent c.args.spent is_spent c.args.out.now.items c.push_process.new.out.items
+    let me = c.args.report.now.account.now.me in
+    block-written c.args.report.now p so keys_spent c.args.spent is_spent c.args.out.now.items c.push_process.new.out.items
     c.push_views.new.out.items c.push_deliveries.new.out.items
     c.push_liars.new.out.items c.push_spent.new.out.items c.push_halted.new.out.items (c.in_ok-push_process.ensures p so)
     (c.in_ok-push_views.ensures ∙ ap (λ (vs : List View). c.push_process.new.out.items ++ flat_map (view_line me) vs) c.deref.ensures.value)

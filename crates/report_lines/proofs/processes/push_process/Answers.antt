@@ -8,8 +8,8 @@ use Rattle.report_lines.proofs.processes.push_process.Goals as goal
 
 pub returns : goal.returns
 returns c = λ p so.
-    let reported = c.args.standing.now.account.now in
-    process-written c.args.standing.now p so
+    let reported = c.args.report.now.account.now in
+    process-written c.args.report.now p so
     (length c.as_slice.result.now) c.in_ok-delivered.delivered c.args.out.now.items c.push_name.new.out.items c.push_counts.new.out.items
     (ap length c.as_slice.ensures.value)
     (c.in_ok-delivered.ensures

@@ -3,7 +3,7 @@ use Rattle.std.specs.Prelude.{◌↔◌, is_some, IfSome, IsTrue}
 use Rattle.std.proofs.lemmas.List.{length-map}
 use Rattle.message_defs.specs.Spelling.{IsClaim}
 use Rattle.group_defs.specs.Process.{Process, Pool, keyed, places_in}
-use Rattle.group_defs.specs.Accounts.{StandsByPlace}
+use Rattle.group_defs.specs.Accounts.{IsByPlace}
 use Rattle.image_defs.specs.Images.{process_of}
 use Rattle.image_defs.specs.Kept.{AreHeard, as_before}
 use Rattle.restored_left.specs.Facts.{IsDecidedSo, IsHaltedSo, SignedOnce, IsOwnSoFar, as_setting, heard_in}
@@ -46,7 +46,7 @@ pub pool_in-requires-clause-by : goal.pool_in-requires-clause-by
 pool_in-requires-clause-by g c =
     let image = image_as c.args.image.now in
     let ds = map delivered c.args.delivered.now in
-    All-mem StandsByPlace image.delivered ds c.requires.placed.by_place (last-in image.delivered _ ds c.requires.parts)
+    All-mem IsByPlace image.delivered ds c.requires.placed.by_place (last-in image.delivered _ ds c.requires.parts)
 
 pub pool_in-requires-clause-places : goal.pool_in-requires-clause-places
 pool_in-requires-clause-places g c =

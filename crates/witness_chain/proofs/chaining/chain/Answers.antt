@@ -2,7 +2,7 @@ use Rattle.std.proofs.Common.{◌≢◌, Err, sym, ap, ◌∙◌, arith}
 use Rattle.chain_words.specs.declared.stops.Stop.{Stop}
 use Rattle.chain_words.proofs.Statuses.{at_input, at_write, refused_so}
 use Rattle.proof_defs.specs.Starts.{started_chain_of}
-use Rattle.proof_laws.proofs.Starts.{start_tells_views}
+use Rattle.proof_laws.proofs.Starts.{starts_report_views}
 use Rattle.witness_chain.proofs.Statuses.{in_part_stays, lines_stay}
 use Rattle.witness_chain.proofs.chaining.chain.Goals as goal
 
@@ -25,7 +25,7 @@ returns-in-Err-clause-some g c = λ one.
     (λ fault is. c.in-Err.ensures.refused fault (ap (λ (s : Stop). Err s) is)) (c.tell.ensures.silent one)
 
 pub returns-in-Ok-clause-views : goal.returns-in-Ok-clause-views
-returns-in-Ok-clause-views g c = λ read taken front is. start_tells_views read front is
+returns-in-Ok-clause-views g c = λ read taken front is. starts_report_views read front is
 
 pub returns-in-Err-clause-views : goal.returns-in-Err-clause-views
-returns-in-Err-clause-views g c = λ read taken front is. start_tells_views read front is
+returns-in-Err-clause-views g c = λ read taken front is. starts_report_views read front is
