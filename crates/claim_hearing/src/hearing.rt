@@ -14,10 +14,7 @@ ghost use Rattle.claim_hearing.specs.Hearing.{Shares, IsHeard};
 use claim_lists::Conflicts;
 use claim_pool::{Own, Pool, Verdict};
 use rp_base::{GroupId, NoMemory, Roster, Scheme};
-use stmt_codec::{Claim, Claims, claim_len, slot_of};
-
-/// The most bytes of a signature.
-const SIGNATURE_BYTES: usize = 16_384;
+use stmt_codec::{Claim, Claims, SIGNATURE_BYTES, claim_len, slot_of};
 
 /// By what claims are judged: the rule of signatures, the processes' keys, and the group that signatures are bound to.
 #[derive(Clone, Copy)]
@@ -44,7 +41,7 @@ fn keep_conflict(pool: &Pool, conflicts: &mut Conflicts, claim: &Claim<'_>) -> R
     let Some(heard) = pool.heard_claim(claim.signer, kind, slot) else {
         return Ok(());
     };
-    if heard.signature.len() > SIGNATURE_BYTES {
+    if heard.signature.len() > SIGNATURE_BYTES as usize {
         return Ok(());
     }
     conflicts.reserve(1, claim_len(&heard).max(claim_len(claim)))?;

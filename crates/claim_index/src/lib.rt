@@ -10,5 +10,5 @@ pub use hasher::KeyHasher;
 pub use index::{ClaimIndex, Kept, lent, store};
 pub use key::{Key, SlotKey, slot_key_at, slot_key_of};
 pub use rp_base::{NoMemory, Pid, PidSet, Value};
-pub use stmt_codec::{Batch, Claim, STATEMENT_BYTES, Slot, Statement, spell_into};
+pub use stmt_codec::{Batch, Claim, MOST_PLACES, STATEMENT_BYTES, Slot, Statement, spell_into};
 pub use view_table::{View, faulty, quorum};

@@ -17,7 +17,7 @@ use rp_base::Pid;
 use stmt_codec::{Batch, Claim, Statement};
 
 /// How far beyond what was delivered numbers and places may go.
-const WINDOW: u32 = 32;
+pub const WINDOW: u32 = 32;
 
 // Whether a sender of these messages is no member.
 fn any_stranger(view: &View, messages: &[(Pid, u16)]) -> bool

@@ -9,6 +9,7 @@ mod signed;
 mod verdict;
 
 pub use certificate::{Ack, CertKind, Certificate, Commit, Keep, Message, Place};
+pub use hearing::WINDOW;
 pub use own_place::Own;
 pub use pool::Pool;
 pub use pool_values::UpdateSet;

@@ -5,10 +5,7 @@ ghost use Rattle.stmt_codec.specs.Views.{stmt, claim as claim_of};
 ghost use Rattle.claim_pool.specs.Settings.{as_setting};
 
 use rp_base::{GroupId, Roster, Scheme};
-use stmt_codec::Claim;
-
-/// The most bytes that `body_into` asks for.
-const BODY_BYTES: usize = 1_100;
+use stmt_codec::{BODY_BYTES, Claim};
 
 /// Whether the signature is valid under the signer's key in the roster, on the body of the claim in this group. None is valid
 /// of a signer that has no key there. The statement is in its ranges (docs/FORMATS.md, «Statements»).

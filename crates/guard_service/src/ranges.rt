@@ -7,12 +7,10 @@ ghost use Rattle.rp_base.specs.Views.{update as update_of, value as value_of};
 ghost use Rattle.member_events.specs.Below.{claim as claim_of, message, report, stmt};
 ghost use Rattle.guard_service.specs.Ranges as tests;
 
-use frame_codec::SIGNATURE_BYTES;
-use member_events::{Batch, Claim, LAST_NUMBER, PAYLOAD_BYTES, Statement};
+use member_events::{
+    Batch, Claim, LAST_NUMBER, MOST_PLACES, PAYLOAD_BYTES, SIGNATURE_BYTES, Statement,
+};
 use rp_base::{Pid, Update, Value};
-
-/// The most places of a view.
-const MOST_PLACES: u16 = 1_024;
 
 /// The last rank of a member.
 const LAST_RANK: u8 = 15;

@@ -5,11 +5,8 @@ ghost use Rattle.snapshot_rp.specs.Views.{delivered as plain};
 ghost use Rattle.kept_images.specs.Facts.{AreByPlace};
 ghost use Rattle.kept_images.specs.Tests as tests;
 
-use member_events::Delivered;
+use member_events::{Delivered, MOST_PLACES};
 use sound_question::is_by_place;
-
-/// The most places of a view.
-const MOST_PLACES: u32 = 1_024;
 
 // The place of the message.
 fn place_of(d: &Delivered) -> u32
@@ -34,7 +31,7 @@ pub fn count_places(delivered: &[Delivered]) -> u32
 fn is_placed(delivered: &[Delivered]) -> bool
     ensures { result ≡ tests.is_placed (map plain delivered.now) }
 {
-    count_places(delivered) <= MOST_PLACES && is_by_place(delivered)
+    count_places(delivered) <= MOST_PLACES as u32 && is_by_place(delivered)
 }
 
 fn each_is_placed(lists: &[Vec<Delivered>]) -> bool

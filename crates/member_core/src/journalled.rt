@@ -2,11 +2,8 @@
 ghost use Rattle.std.specs.Prelude.{◌≡◌, ◌+◌, ◌-◌, ◌≤◌, length, drop};
 ghost use Rattle.member_events.specs.Kept.{signatures_left};
 
-use member_events::EntrySignatures;
+use member_events::{EntrySignatures, SIGNATURE_BYTES};
 use rp_base::{Signer, Spent, Tally};
-
-/// The most bytes of a signature.
-const SIGNATURE_BYTES: usize = 16_384;
 
 /// A signer without a key. It hands out the signatures of an entry in their order, whatever is to be signed, and does not ask
 /// whether they are valid for that.
@@ -89,7 +86,7 @@ impl Signer for Journalled<'_> {
     }
 
     fn sig_len(&self) -> usize {
-        SIGNATURE_BYTES
+        SIGNATURE_BYTES as usize
     }
 
     fn sign(&mut self, _body: &[u8], out: &mut [u8]) -> Result<usize, Spent> {

@@ -6,10 +6,9 @@ ghost use Rattle.stmt_codec.specs.Views.{stmt, signed};
 
 use rp_base::{GroupId, NoMemory, Pid, Signer, Tally};
 use std::alloc::Global;
-use stmt_codec::{OwnClaim, Payload, STATEMENT_BYTES, Statement, body_into, spell_into};
-
-/// The room for a body: it has at most 1,053 bytes.
-const BODY_ROOM: usize = 1_100;
+use stmt_codec::{
+    BODY_BYTES, OwnClaim, Payload, STATEMENT_BYTES, Statement, body_into, spell_into,
+};
 
 // The bytes, as bytes of one's own: as much memory as they take.
 fn owned(alloc: Global, bytes: &[u8]) -> Result<Payload, NoMemory>
@@ -67,7 +66,7 @@ fn sign_statement<G: Signer>(
     ensures secret { G.signature signer.new ≡ G.signature signer.old }
     ensures key { G.public signer.new ≡ G.public signer.old }
 {
-    let mut room = [0; BODY_ROOM];
+    let mut room = [0; BODY_BYTES];
     let len = body_into(group, me, statement, &mut room);
     sign_body(alloc, &room[..len], signer)
 }

@@ -9,10 +9,7 @@ ghost use Rattle.own_place.specs.Signed.{has_slot};
 ghost use Rattle.rule_laws.specs.Messages.{own_init};
 
 use crate::deliveries::counts_of;
-use pool_questions::{Own, Pool};
-
-/// How far beyond what was delivered numbers and places may go.
-pub(crate) const WINDOW: u32 = 32;
+use pool_questions::{Own, Pool, WINDOW};
 
 // Whether the number is in the window after `delivered` messages, and a payload was accepted for it.
 fn has_payload(number: u16, delivered: u16, earlier: u32, accepted: u32) -> bool

@@ -12,8 +12,7 @@ ghost use Rattle.multicast_rules.specs.Ordering.{is_in_turn, TakesNext};
 
 use crate::counting::{copied, count_one};
 use crate::echoes::message_held;
-use crate::inits::WINDOW;
-use pool_questions::{Own, Pool};
+use pool_questions::{Own, Pool, WINDOW};
 use rp_base::Pid;
 use stmt_codec::{Batch, LAST_NUMBER, Slot};
 

@@ -10,15 +10,14 @@ ghost use Rattle.own_place.specs.Signed.{has_slot};
 ghost use Rattle.own_place.specs.Rows.{slot_in};
 
 use crate::rows::{ROWS, Row, row_of};
-use claim_index::{KeyHasher, NoMemory, Pid, Slot, SlotKey, Statement, slot_key_at, slot_key_of};
+use claim_index::{
+    KeyHasher, MOST_PLACES, NoMemory, Pid, Slot, SlotKey, Statement, slot_key_at, slot_key_of,
+};
 use indexmap::IndexSet;
 use std::alloc::Global;
 use std::hash::BuildHasherDefault;
 use std::marker::Model;
 use std::mem;
-
-/// How many numbers, and how many places, a view has.
-const MOST_PLACES: u16 = 1_024;
 
 // The keys of slots, hashed as those of heard claims are.
 type Keys = IndexSet<SlotKey, BuildHasherDefault<KeyHasher>>;

@@ -7,11 +7,11 @@ use rp_base::NoMemory;
 use std::alloc::Global;
 use std::marker::Model;
 use std::mem;
-use stmt_codec::Batch;
+use stmt_codec::{Batch, MOST_PLACES};
 use view_table::View;
 
-/// How many places a view has.
-const MOST_PLACES: usize = 1_024;
+/// The room for a view's places.
+const PLACES: usize = MOST_PLACES as usize;
 
 /// The batches of the places 0, 1, 2 and so on of a view, up to 1,024, and for each place, how many messages of each member are
 /// named before it. Contracts see the view and the list of the batches.
@@ -54,8 +54,8 @@ impl PlacedBatches {
         ensures { IfOk result (λ p. p ≡ record { view = view; batches = [] }) }
     {
         let _members = view.members();
-        let batches = Vec::with_capacity(alloc, MOST_PLACES)?;
-        let mut names = Vec::with_capacity(alloc, MOST_PLACES + 1)?;
+        let batches = Vec::with_capacity(alloc, PLACES)?;
+        let mut names = Vec::with_capacity(alloc, PLACES + 1)?;
         names.push([0; 16])?;
         Ok(PlacedBatches {
             view,

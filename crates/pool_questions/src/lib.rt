@@ -8,7 +8,7 @@ mod parts;
 mod said;
 
 pub use certified::{certified_ack, certified_batch, certified_payload, certified_ready};
-pub use claim_pool::{CertKind, Certificate, Commit, Keep, Message, Own, Place, Pool};
+pub use claim_pool::{CertKind, Certificate, Commit, Keep, Message, Own, Place, Pool, WINDOW};
 pub use member_events::{EventFault, Slot};
 pub use notices::{has_notified, removed_rank};
 pub use said::{end_of, last_of, ordered_batch, suggestion};

@@ -18,13 +18,10 @@ use crate::ends::{PROCESSES, note_init};
 use crate::updates::UpdateSet;
 use placed_batches::PlacedBatches;
 use rp_base::{NoMemory, Pid, Update};
-use slot_quorums::{Batch, Claim, Quorums, Slot, Statement, View, faulty};
+use slot_quorums::{Batch, Claim, MOST_PLACES, Quorums, Slot, Statement, View, faulty};
 use std::alloc::Global;
 use std::marker::Model;
 use std::mem;
-
-/// How many places a view has.
-const MOST_PLACES: u16 = 1_024;
 
 /// The number of the kind Place.
 const PLACE: u8 = 4;

@@ -1,17 +1,13 @@
 use crate::bundle::bundle;
-use member_events::{Payload, Statement, body_into, spell_into};
+use member_events::{
+    BODY_BYTES, Payload, SIGNATURE_BYTES, STATEMENT_BYTES, Statement, body_into, spell_into,
+};
 use rp_base::{GroupId, NoMemory, Pid, Signer, Tally};
 use sig_scheme::AnySigner;
 use std::alloc::Global;
 
-/// The room of a body that is signed.
-const BODY_ROOM: usize = 1100;
-
 /// The room of a signature.
-const SIGNATURE_ROOM: usize = 16_384;
-
-/// The room of a statement's bytes.
-const STATEMENT_ROOM: usize = 1032;
+const SIGNATURE_ROOM: usize = SIGNATURE_BYTES as usize;
 
 /// A corrupt process, with its key.
 #[derive(Drop)]
@@ -45,14 +41,14 @@ impl Liar {
         if self.signer.used() == self.signer.total() {
             return Ok(None);
         }
-        let mut body = [0; BODY_ROOM];
+        let mut body = [0; BODY_BYTES];
         let len = body_into(group, self.process, statement, &mut body);
         let mut room = [0; SIGNATURE_ROOM];
         let signature = &mut room[..self.signer.sig_len()];
         let Ok(size) = self.signer.sign(&body[..len], signature) else {
             unreachable!();
         };
-        let mut spelled = [0; STATEMENT_ROOM];
+        let mut spelled = [0; STATEMENT_BYTES];
         let end = spell_into(statement, &mut spelled);
         Ok(Some(bundle(alloc, &spelled[..end], self.process, &signature[..size])?))
     }

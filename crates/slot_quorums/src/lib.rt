@@ -5,5 +5,5 @@
 mod cell;
 mod quorums;
 
-pub use claim_index::{Batch, Claim, Slot, Statement, View, faulty};
+pub use claim_index::{Batch, Claim, MOST_PLACES, Slot, Statement, View, faulty};
 pub use quorums::Quorums;

@@ -8,10 +8,8 @@ ghost use Rattle.snapshot_defs.specs.Steps as steps;
 ghost use Rattle.snapshot_defs.specs.Reading as plain;
 ghost use Rattle.snapshot_rp.specs.Claims.{statement_or_end, process_in, updated};
 
-use member_events::{bytes_at, read_statement, u8_at, u16_at, u32_at};
+use member_events::{MOST_PLACES, bytes_at, read_statement, u8_at, u16_at, u32_at};
 use rp_base::{Pid, Update, Value};
-
-const MOST_PLACES: u16 = 1024;
 
 const REMOVE: u8 = 1;
 

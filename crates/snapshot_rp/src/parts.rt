@@ -11,14 +11,12 @@ use crate::entries::{Entry, Reading, list, push_list};
 use crate::fault::ReadError;
 use crate::image::LeftView;
 use crate::pushing::{push_short, push_text, push_update, push_value};
-use member_events::{Delivered, LAST_NUMBER, Payload};
+use member_events::{Delivered, LAST_NUMBER, PAYLOAD_BYTES, Payload};
 use rp_base::{NoMemory, Update};
 use snapshot_defs::Version;
 use std::alloc::Global;
 
 pub(crate) const LAST_RANK: u8 = 15;
-
-const PAYLOAD_BYTES: u16 = 1024;
 
 impl Entry for KeptClaim {
     ghost use Rattle.message_defs.specs.Statements.{Claim};
@@ -251,7 +249,7 @@ pub(crate) fn claims(reading: Reading, cursor: &mut Cursor<'_>) -> Result<Vec<Ke
 fn payload(alloc: Global, cursor: &mut Cursor<'_>) -> Result<Payload, ReadError>
     ensures { Makes left_of (λ p. (p, cursor.new.rest.now)) result (text_to most_payload_bytes cursor.old.rest.now) }
 {
-    let bytes = cursor.text_to(PAYLOAD_BYTES)?;
+    let bytes = cursor.text_to(PAYLOAD_BYTES as u16)?;
     Ok(Payload::from_vec(bytes.to_vec(alloc)?))
 }
 

@@ -11,7 +11,7 @@ mod statement;
 
 pub use batch::Batch;
 pub use laws::{body_determines_statement, spelling_determines_statement};
-pub use limits::{LAST_NUMBER, MOST_PLACES, PAYLOAD_BYTES, STATEMENT_BYTES};
+pub use limits::{BODY_BYTES, LAST_NUMBER, MOST_PLACES, PAYLOAD_BYTES, STATEMENT_BYTES};
 pub use message_defs::FrameFault;
 pub use reading::{Carrier, read_carried, read_statement};
 pub use rp_base::{Pid, PidSet, UpdateFault};

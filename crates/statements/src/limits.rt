@@ -17,3 +17,6 @@ pub const PAYLOAD_BYTES: usize = 1024;
 
 /// The most bytes of a statement: an Echo's, with the longest payload.
 pub const STATEMENT_BYTES: usize = 1032;
+
+/// The room for the body of a statement, which has at most 1,053 bytes.
+pub const BODY_BYTES: usize = 1_100;

@@ -13,7 +13,8 @@ pub use frame_codec::{SIGNATURE_BYTES, bytes_at, u8_at, u16_at, u32_at};
 pub use own::OwnClaim;
 pub use payload::Payload;
 pub use statements::{
-    Batch, Claim, FrameFault, LAST_NUMBER, PAYLOAD_BYTES, Pid, PidSet, STATEMENT_BYTES, Slot,
-    Statement, UpdateFault, body_determines_statement, body_into, claim_len, conflicts,
-    is_same_slot, read_statement, slot_of, spell_into, spelled_len, spelling_determines_statement,
+    BODY_BYTES, Batch, Claim, FrameFault, LAST_NUMBER, MOST_PLACES, PAYLOAD_BYTES, Pid, PidSet,
+    STATEMENT_BYTES, Slot, Statement, UpdateFault, body_determines_statement, body_into, claim_len,
+    conflicts, is_same_slot, read_statement, slot_of, spell_into, spelled_len,
+    spelling_determines_statement,
 };
