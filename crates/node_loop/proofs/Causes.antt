@@ -19,8 +19,11 @@ use Rattle.stop_laws.specs.Binds.{IsSilent}
 use Rattle.stop_laws.proofs.Binding.{binds_first}
 use Rattle.stop_laws.proofs.Rested.{ends-so}
 use Rattle.node_script.specs.Inputs.{HasNoKit}
-use Rattle.node_opening.specs.Below.{SnapSaid, snapshot_said, begins_by, HoldsAs, HoldsBy, Unread, no_memory, no_disk, no_header, no_place, no_entry}
+use Rattle.node_opening.specs.Below.{SnapSaid, snapshot_said}
+use Rattle.node_opening.specs.Begins.{begins_by}
+use Rattle.node_opening.specs.Holding.{HoldsAs, HoldsBy}
 use Rattle.node_opening.specs.Opened.{Unopened, reading, opening}
+use Rattle.node_opening.specs.Reading.{Unread, no_memory, no_disk, no_header, no_place, no_entry}
 use Rattle.node_script.specs.Words.{outside}
 use Rattle.node_loop.specs.Runs.{HasRunFrom, HasStopped, no_kit, not_opened, ran, snaps_from}
 use Rattle.node_loop.specs.Resumed as resumed

@@ -15,8 +15,9 @@ use Rattle.node_traces.specs.Outside.{LinkSeen, SinkSeen, SourceSeen}
 use Rattle.node_traces.specs.Service.{Asked}
 use Rattle.node_traces.specs.Goes.{Outside, Goes}
 use Rattle.node_script.specs.Inputs.{BeginsWith, HasKit, HasNoKit, node_front}
-use Rattle.node_opening.specs.Below.{HoldsAs, Unread, no_memory, no_disk, no_header, no_place, no_entry}
+use Rattle.node_opening.specs.Holding.{HoldsAs}
 use Rattle.node_opening.specs.Opened.{Unopened, reading, opening}
+use Rattle.node_opening.specs.Reading.{Unread, no_memory, no_disk, no_header, no_place, no_entry}
 use Rattle.node_script.specs.Words.{outside}
 use Rattle.stop_laws.specs.Scripts.{CarriesOut, IsScript}
 use Rattle.stop_laws.specs.Stops.{CanStop, CanHaveStopped}

@@ -20,8 +20,10 @@ use Rattle.node_traces.specs.Outside.{LinkSeen, SinkSeen, SourceSeen, SourceTook
 use Rattle.node_traces.specs.Service.{Asked}
 use Rattle.node_traces.specs.Goes.{Outside, Goes}
 use Rattle.opening_laws.specs.Reading.{BreaksReading}
-use Rattle.node_opening.specs.Below.{SnapSaid, snap_said, snapshot_said, HoldsBy, IsPlaceOf, IsStartedOn, header_in, Unread, no_memory, no_disk, no_header, no_place, no_entry}
+use Rattle.node_opening.specs.Below.{SnapSaid, snap_said, snapshot_said}
+use Rattle.node_opening.specs.Holding.{HoldsBy, IsPlaceOf, IsStartedOn, header_in}
 use Rattle.node_opening.specs.Opened.{Unopened, reading, opening}
+use Rattle.node_opening.specs.Reading.{Unread, no_memory, no_disk, no_header, no_place, no_entry}
 use Rattle.node_script.specs.Inputs.{BeginsWith, node_front}
 use Rattle.node_script.specs.Words.{outside}
 use Rattle.stop_laws.specs.Scripts.{IsScript}

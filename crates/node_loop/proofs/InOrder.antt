@@ -10,7 +10,7 @@ use Rattle.journal_defs.proofs.Recording.{one_reading}
 use Rattle.node_defs.specs.Casts.{cast_of, from_start}
 use Rattle.node_defs.specs.Lives.{FitsFrom}
 use Rattle.opening_laws.specs.Reading.{BreaksReading}
-use Rattle.node_opening.specs.Below.{HoldsAs, IsOther, header_in}
+use Rattle.node_opening.specs.Holding.{HoldsAs, IsOther, header_in}
 use Rattle.stop_laws.proofs.Whole.{journal_is_read}
 use Rattle.node_loop.specs.Inputs.{IsJournalOf}
 

@@ -20,7 +20,9 @@ use Rattle.node_traces.specs.Goes.{Outside, Goes}
 use Rattle.node_traces.specs.Stops.{LeftFrom, Outset, at_start}
 use Rattle.node_traces.proofs.Going.{parts_go_on}
 use Rattle.node_traces.proofs.Left.{parts_leave}
-use Rattle.node_opening.specs.Below.{SnapSaid, snapshot_said, IsHeadIn, head_in, outset, HoldsAs, HoldsBy}
+use Rattle.node_opening.specs.Below.{SnapSaid, snapshot_said}
+use Rattle.node_opening.specs.Begins.{IsHeadIn, head_in, outset}
+use Rattle.node_opening.specs.Holding.{HoldsAs, HoldsBy}
 use Rattle.node_opening.specs.Opened.{HasOpened}
 use Rattle.node_opening.proofs.Moments.{not-empty}
 use Rattle.node_script.specs.Words.{IsNode, Running, StopsSo, cast_in, outside}

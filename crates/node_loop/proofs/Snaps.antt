@@ -7,8 +7,9 @@ use Rattle.node_defs.specs.Casts.{cast_of, hosted_by}
 use Rattle.node_defs.specs.Lines.{Stop, Ended, NoMemory, ReadFailed, BadLine, BadSnap}
 use Rattle.node_defs.specs.Snapshots.{IsSnapshotFor}
 use Rattle.node_traces.specs.Outside.{SourceSeen, SourceTook}
-use Rattle.node_opening.specs.Below.{ArePartsOf, SnapSaid, snap_said, snapshot_said, IsSaidFor, IsSnapOf, Snap, IsSnapFor}
+use Rattle.node_opening.specs.Below.{ArePartsOf, SnapSaid, snap_said, snapshot_said, IsSaidFor, IsSnapOf, Snap}
 use Rattle.node_script.specs.Below.{TakesNone}
+use Rattle.node_opening.specs.Begins.{IsSnapFor}
 use Rattle.node_script.specs.Sources.{IsSeen}
 use Rattle.node_script.specs.Words.{StopsByDisk}
 use Rattle.node_loop.specs.Resumed.{IsNoSnap, IsSnap, as_snap, lacks_memory, most_snap_bytes, no_line, not_read, says_other, too_long}

@@ -11,7 +11,8 @@ use Rattle.node_defs.specs.Lives.{FitsFrom}
 use Rattle.input_defs.specs.Lines.{line_within}
 use Rattle.journal_rp.specs.Headers.{IsJournal}
 use Rattle.node_defs.specs.Snapshots.{IsSnapshotFor, from_snapshot}
-use Rattle.node_opening.specs.Below.{SnapSaid, snap_said, snapshot_said, IsPlaceOf, header_in}
+use Rattle.node_opening.specs.Below.{SnapSaid, snap_said, snapshot_said}
+use Rattle.node_opening.specs.Holding.{IsPlaceOf, header_in}
 use Rattle.node_script.specs.Inputs.{node_front}
 use Rattle.node_loop.specs.Resumed.{most_snap_bytes}
 use Rattle.stop_laws.specs.Scripts.{IsScript}

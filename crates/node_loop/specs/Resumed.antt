@@ -13,7 +13,9 @@ use Rattle.node_defs.specs.Snapshots.{IsSnapshotFor, from_snapshot}
 use Rattle.node_traces.specs.Outside.{LinkSeen, SinkSeen, SourceSeen, SourceTook, SourceBroke, SourceEnded, SourceFailed}
 use Rattle.node_traces.specs.Service.{Asked}
 use Rattle.node_traces.specs.Goes.{Outside}
-use Rattle.node_opening.specs.Below.{SnapSaid, snap_said, snapshot_said, IsSaidFor, IsHeadIn, HoldsBy}
+use Rattle.node_opening.specs.Below.{SnapSaid, snap_said, snapshot_said, IsSaidFor}
+use Rattle.node_opening.specs.Begins.{IsHeadIn}
+use Rattle.node_opening.specs.Holding.{HoldsBy}
 use Rattle.node_script.specs.Inputs.{HasNoKit}
 use Rattle.node_script.specs.Sources.{IsSeen, SeenAs}
 use Rattle.node_script.specs.Words.{outside}

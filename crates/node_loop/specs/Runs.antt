@@ -17,7 +17,9 @@ use Rattle.node_traces.specs.Outside.{LinkSeen, SinkSeen, SourceSeen}
 use Rattle.node_traces.specs.Service.{Asked}
 use Rattle.node_traces.specs.Goes.{Outside, Goes}
 use Rattle.node_traces.specs.Stops.{LeftFrom, Outset, at_start}
-use Rattle.node_opening.specs.Below.{SnapSaid, head_in, HoldsAs}
+use Rattle.node_opening.specs.Below.{SnapSaid}
+use Rattle.node_opening.specs.Begins.{head_in}
+use Rattle.node_opening.specs.Holding.{HoldsAs}
 use Rattle.node_opening.specs.Opened.{Unopened}
 use Rattle.node_script.specs.Inputs.{HasKit, HasNoKit}
 use Rattle.node_script.specs.Sources.{IsSeen, SeenAs}

@@ -6,8 +6,8 @@ use Rattle.group_defs.specs.Process.{Process}
 use Rattle.node_defs.specs.Lines.{host_line}
 use Rattle.node_traces.specs.Outside.{LinkSeen, LinkFailed}
 use Rattle.opening_laws.specs.Opening.{FailsAtOne}
-use Rattle.node_reading.specs.Below.{Counts, count_in}
-use Rattle.node_reading.proofs.Below.{IsAmong}
+use Rattle.restored_hosts.specs.Below.{Counts, count_in}
+use Rattle.restored_hosts.proofs.Below.{IsAmong}
 
 -- ---- their ports
 

@@ -19,11 +19,11 @@ use Rattle.node_laws.proofs.Openings.{opens_sound}
 use Rattle.node_traces.specs.Goes.{Outside, Goes}
 use Rattle.opening_laws.specs.Opening.{left_to_open}
 use Rattle.opening_laws.proofs.EntriesRead.{each_reads_on}
-use Rattle.node_reading.specs.Below.{Hosts, Running, cast_in, Counts, count_in, SnapSaid}
-use Rattle.node_reading.specs.Begins.{HasItsPlace, IsHeadIn, begins_by, head_in}
-use Rattle.node_reading.specs.Holding.{IsPlaceOf}
+use Rattle.restored_hosts.specs.Below.{Hosts, Running, cast_in, Counts, count_in, SnapSaid}
+use Rattle.node_opening.specs.Begins.{HasItsPlace, IsHeadIn, begins_by, head_in}
+use Rattle.node_opening.specs.Holding.{IsPlaceOf}
 use Rattle.node_opening.specs.Opened.{HasOpened}
-use Rattle.node_reading.specs.Reading.{HasReadJournal, node_after}
+use Rattle.node_opening.specs.Reading.{HasReadJournal, node_after}
 use Rattle.node_opening.proofs.Presented.{finished}
 
 -- ---- a node that only reads

@@ -1,5 +1,10 @@
+pub mod Begun
 pub mod Each
 pub mod Finished
+pub mod Held
 pub mod Lines
 pub mod Moments
+pub mod Placed
 pub mod Presented
+pub mod TakenUp
+pub mod Whole

@@ -8,8 +8,8 @@ use Rattle.node_defs.specs.Casts.{Cast, Beginning, entries_of}
 use Rattle.node_defs.specs.Nodes.{at_first, entries_in, host_lines, opens}
 use Rattle.opening_laws.specs.Opening.{HasToOpen, binds}
 use Rattle.opening_laws.proofs.EntriesRead.{each_reads_on}
-use Rattle.node_reading.specs.Below.{Hosts, Counts, count_in}
-use Rattle.node_reading.specs.Reading.{HasRead, node_after}
+use Rattle.restored_hosts.specs.Below.{Hosts, Counts, count_in}
+use Rattle.node_opening.specs.Reading.{HasRead, node_after}
 use Rattle.node_opening.proofs.Each.{lines_of}
 use Rattle.node_opening.proofs.Presented.{to_tell}
 

@@ -13,9 +13,9 @@ use Rattle.journal_disk.proofs.Moments.{weaker}
 use Rattle.journal_disk.proofs.OnceRead.{reads_before}
 use Rattle.journal_disk.proofs.Shutting.{fewer_stand, found_images}
 use Rattle.node_defs.specs.Casts.{cast_of}
-use Rattle.node_reading.specs.Below.{SnapSaid}
-use Rattle.node_reading.specs.Begins.{head_in}
-use Rattle.node_reading.specs.Holding.{header_in}
+use Rattle.restored_hosts.specs.Below.{SnapSaid}
+use Rattle.node_opening.specs.Begins.{head_in}
+use Rattle.node_opening.specs.Holding.{header_in}
 
 -- one file begins with the header of one kind alone
 one-kind : (h : Header) (v w : Version) (es fs : List Entry) (xs ys : List ℕ)

@@ -12,11 +12,11 @@ use Rattle.node_traces.specs.Goes.{Outside, Goes}
 use Rattle.node_traces.proofs.Going.{parts_go_on}
 use Rattle.opening_laws.specs.Opening.{HasToOpen, FailsAtOne, StopsBy, binds, left_to_open, stopped_by}
 use Rattle.opening_laws.proofs.Opened.{opens_in_order}
-use Rattle.node_reading.specs.Below.{HasAnswered, SnapSaid, outside}
-use Rattle.node_reading.specs.Begins.{begins_by}
-use Rattle.node_reading.specs.Holding.{HoldsBy}
+use Rattle.restored_hosts.specs.Below.{HasAnswered, SnapSaid, outside}
+use Rattle.node_opening.specs.Begins.{begins_by}
+use Rattle.node_opening.specs.Holding.{HoldsBy}
 use Rattle.node_opening.specs.Opened.{Unopened, reading, opening}
-use Rattle.node_reading.specs.Reading.{Unread}
+use Rattle.node_opening.specs.Reading.{Unread}
 
 -- what is to be done after the binds
 abbrev pub to_tell : List ℕ → List Opening

@@ -1,2 +1,5 @@
 pub mod Below
+pub mod Begins
+pub mod Holding
 pub mod Opened
+pub mod Reading

@@ -10,10 +10,10 @@ use Rattle.node_defs.specs.Lives.{Found}
 use Rattle.node_defs.specs.Nodes.{Node, Snapper, opens}
 use Rattle.node_traces.specs.Goes.{Outside, Goes}
 use Rattle.opening_laws.specs.Opening.{StopsBy}
-use Rattle.node_reading.specs.Below.{Running, IsNode, cast_in, SnapSaid}
-use Rattle.node_reading.specs.Begins.{IsHeadIn, begins_by, head_in, outset}
-use Rattle.node_reading.specs.Holding.{HoldsBy}
-use Rattle.node_reading.specs.Reading.{Unread}
+use Rattle.restored_hosts.specs.Below.{Running, IsNode, cast_in, SnapSaid}
+use Rattle.node_opening.specs.Begins.{IsHeadIn, begins_by, head_in, outset}
+use Rattle.node_opening.specs.Holding.{HoldsBy}
+use Rattle.node_opening.specs.Reading.{Unread}
 
 -- The node, which begins so, opens on a journal with these entries, which the disk held, and all that is to be done before its first line was
 -- done: x is link, output, input and the service's history before it, and y after it. `seen` and `may_leave` are of the disk after it.

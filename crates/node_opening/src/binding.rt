@@ -3,9 +3,9 @@ ghost use Rattle.std.specs.Prelude.{◌≡◌, OnErr, OnOk};
 ghost use Rattle.node_traces.specs.Outside.{LinkFailed};
 ghost use Rattle.node_traces.specs.Seen.{link_seen};
 ghost use Rattle.opening_laws.specs.Opening.{FailsAtOne};
-ghost use Rattle.node_reading.specs.Below.{numbers_of};
+ghost use Rattle.restored_hosts.specs.Below.{numbers_of};
 
-use node_reading::Hosts;
+use restored_hosts::Hosts;
 use rp_base::{Failed, Link, Pid};
 
 // The port of a process, if it is hosted.

@@ -6,9 +6,9 @@ ghost use Rattle.kit_defs.specs.Kits.{Kit};
 ghost use Rattle.group_defs.specs.Process.{Process};
 ghost use Rattle.node_defs.specs.Lines.{host_line};
 ghost use Rattle.node_defs.specs.Casts.{Cast};
-ghost use Rattle.node_reading.specs.Below.{AreHosts, count_in};
+ghost use Rattle.restored_hosts.specs.Below.{AreHosts, count_in};
 
-use node_reading::{Counts, Hosts, push_host};
+use restored_hosts::{Counts, Hosts, push_host};
 use rp_base::{NoMemory, Pid};
 use std::alloc::Global;
 

@@ -10,13 +10,14 @@ ghost use Rattle.node_defs.specs.Nodes.{Snapper};
 ghost use Rattle.node_traces.specs.Outside.{SourceSeen};
 ghost use Rattle.node_traces.specs.Seen.{link_seen, sink_seen};
 ghost use Rattle.node_traces.specs.Service.{Asked, HeardBy};
-ghost use Rattle.node_reading.specs.Below.{stop as stop_of, HasDiskCause, SnapSaid, outside};
-ghost use Rattle.node_reading.specs.Begins.{BeginsBy, head_in};
+ghost use Rattle.restored_hosts.specs.Below.{stop as stop_of, HasDiskCause, SnapSaid, outside};
+ghost use Rattle.node_opening.specs.Begins.{BeginsBy, head_in};
 ghost use Rattle.node_opening.specs.Opened.{HasOpened, Unopened};
 
 use crate::greeting::host_lines;
 use crate::presenting::present;
-use node_reading::{Kit, Running, Service, Snap, Stop, read_journal, stop_at};
+use crate::reading::read_journal;
+use restored_hosts::{Kit, Running, Service, Snap, Stop, stop_at};
 use rp_base::{Disk, Link, Sink};
 use std::alloc::Global;
 

@@ -9,10 +9,10 @@ ghost use Rattle.node_traces.specs.Goes.{Goes};
 ghost use Rattle.node_traces.specs.Seen.{link_seen, sink_seen};
 ghost use Rattle.node_traces.specs.Service.{Asked, HeardBy};
 ghost use Rattle.opening_laws.specs.Opening.{HasToOpen, StopsBy, binds, left_to_open};
-ghost use Rattle.node_reading.specs.Below.{AreHosts, numbers_of, stop as stop_of, HasDiskCause, outside};
+ghost use Rattle.restored_hosts.specs.Below.{AreHosts, numbers_of, stop as stop_of, HasDiskCause, outside};
 
 use crate::binding::bind_all;
-use node_reading::{Hosts, Kit, Service, Stop};
+use restored_hosts::{Hosts, Kit, Service, Stop};
 use rp_base::{Failed, Link, Sink, write_all};
 use std::alloc::Global;
 

@@ -4,7 +4,7 @@ use Rattle.node_defs.specs.Lives.{fresh}
 use Rattle.node_defs.specs.Nodes.{Snapper}
 use Rattle.node_traces.specs.Outside.{SourceSeen}
 use Rattle.node_traces.specs.Seen.{link_seen, sink_seen}
-use Rattle.node_opening.specs.Below.{outset}
+use Rattle.node_opening.specs.Begins.{outset}
 use Rattle.node_script.specs.Words.{StopsByDisk, cast_in, stop as stop_of}
 use Rattle.node_script.specs.Sources.{line_limit}
 use Rattle.node_loop.specs.Resumed.{NodeEnds, stays_shut}

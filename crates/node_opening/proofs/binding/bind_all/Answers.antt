@@ -2,8 +2,8 @@ use Rattle.std.proofs.Common.{◌≡◌, refl, ◌∙◌}
 use Rattle.std.proofs.lemmas.Result.{err_from_is_err_and}
 use Rattle.rp_base.specs.PidsLeft.{pids_left}
 use Rattle.node_traces.specs.Seen.{link_seen}
-use Rattle.node_reading.specs.Below.{numbers_of}
-use Rattle.node_reading.proofs.Below.{none-done, one-done}
+use Rattle.restored_hosts.specs.Below.{numbers_of}
+use Rattle.restored_hosts.proofs.Below.{none-done, one-done}
 use Rattle.node_opening.proofs.Each.{fails-at}
 use Rattle.node_opening.proofs.binding.bind_all.Goals as goal
 

@@ -1,8 +1,8 @@
 use Rattle.std.proofs.Common.{◌≡◌}
 use Rattle.rp_base.specs.PidsLeft.{pids_left}
 use Rattle.node_traces.specs.Seen.{link_seen}
-use Rattle.node_reading.specs.Below.{numbers_of}
-use Rattle.node_reading.proofs.Below.{IsAmong}
+use Rattle.restored_hosts.specs.Below.{numbers_of}
+use Rattle.restored_hosts.proofs.Below.{IsAmong}
 use Rattle.node_opening.proofs.binding.bind_all.Given as goal
 
 abbrev pub invariant-ports : goal.invariant-ports

@@ -2,8 +2,8 @@ use Rattle.std.proofs.Common.{◌≡◌, ◌++◌, ap, subst, ◌∙◌}
 use Rattle.std.specs.Prelude.{IsTrue}
 use Rattle.byte_defs.specs.Members.{has}
 use Rattle.rp_base.specs.PidsLeft.{pids_left}
-use Rattle.node_reading.specs.Below.{numbers_of}
-use Rattle.node_reading.proofs.Below.{is-one, none-done, one-done}
+use Rattle.restored_hosts.specs.Below.{numbers_of}
+use Rattle.restored_hosts.proofs.Below.{is-one, none-done, one-done}
 use Rattle.node_opening.proofs.Each.{all-reported, lines_of, one-reported}
 use Rattle.node_opening.proofs.greeting.host_lines.Goals as goal
 

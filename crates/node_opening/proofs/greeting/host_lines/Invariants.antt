@@ -3,8 +3,8 @@ use Rattle.kit_defs.specs.Kits.{Kit}
 use Rattle.group_defs.specs.Process.{Process}
 use Rattle.rp_base.specs.PidsLeft.{pids_left}
 use Rattle.node_defs.specs.Casts.{Cast}
-use Rattle.node_reading.specs.Below.{AreHosts, numbers_of}
-use Rattle.node_reading.proofs.Below.{IsAmong}
+use Rattle.restored_hosts.specs.Below.{AreHosts, numbers_of}
+use Rattle.restored_hosts.proofs.Below.{IsAmong}
 use Rattle.node_opening.proofs.Each.{lines_of}
 use Rattle.node_opening.proofs.greeting.host_lines.Given as goal
 

@@ -1,6 +1,6 @@
 use Rattle.std.proofs.Common.{◌≡◌, ◌++◌, None, true≢false, sym, subst, ◌∙◌}
 use Rattle.std.specs.Prelude.{OnOk}
-use Rattle.node_reading.specs.Below.{Core, IsCore}
+use Rattle.restored_hosts.specs.Below.{Core, IsCore}
 use Rattle.sig_scheme.specs.declared.any_signer.AnySigner.{AnySigner}
 use Rattle.sig_scheme.specs.Signers.{used}
 use Rattle.node_defs.specs.Lines.{host_line}

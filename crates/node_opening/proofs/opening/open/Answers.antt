@@ -7,15 +7,15 @@ use Rattle.node_defs.specs.Lines.{DiskFailed, NoMemory}
 use Rattle.node_defs.specs.Casts.{cast_of}
 use Rattle.node_defs.specs.Nodes.{opens}
 use Rattle.node_traces.specs.Seen.{link_seen, sink_seen}
-use Rattle.node_reading.specs.Below.{count_in, stop, outside}
-use Rattle.node_reading.specs.Begins.{begins_by, head_in}
+use Rattle.restored_hosts.specs.Below.{count_in, stop, outside}
+use Rattle.node_opening.specs.Begins.{begins_by, head_in}
 use Rattle.node_opening.specs.Opened.{Unopened, opening}
-use Rattle.node_reading.specs.Reading.{no_memory, node_after}
+use Rattle.node_opening.specs.Reading.{no_memory, node_after}
 use Rattle.node_opening.proofs.Finished.{ends-at, opened}
 use Rattle.node_opening.proofs.Lines.{to-open}
 use Rattle.node_opening.proofs.Moments.{ends-so, finish-moments, finish-stands, front-there, read-moments, read-stands}
 use Rattle.node_opening.proofs.Presented.{not-finished, unopened, unread}
-use Rattle.node_reading.proofs.Below.{by-disk, by-no-disk}
+use Rattle.restored_hosts.proofs.Below.{by-disk, by-no-disk}
 use Rattle.node_opening.proofs.opening.open.Goals as goal
 
 pub returns-in_err-readers-clause-stops : goal.returns-in_err-readers-clause-stops

@@ -4,7 +4,7 @@ use Rattle.node_defs.specs.Casts.{cast_of}
 use Rattle.node_defs.specs.Nodes.{Serve, Finish}
 use Rattle.node_traces.specs.Seen.{link_seen, sink_seen}
 use Rattle.opening_laws.specs.Opening.{left_to_open}
-use Rattle.node_reading.specs.Below.{numbers_of, stop}
+use Rattle.restored_hosts.specs.Below.{numbers_of, stop}
 use Rattle.node_opening.proofs.Presented.{not-bound, not-reported, presents, presents-part}
 use Rattle.node_opening.proofs.presenting.present.Goals as goal
 

@@ -1,4 +1,0 @@
-pub mod Below
-pub mod Begins
-pub mod Holding
-pub mod Reading
